@@ -1,12 +1,12 @@
 /* An example: the commands of the program by the library, with the program's words, answers and statuses.
 
        cc -o jslint jslint.c libjslint.a
-       ./jslint fix|unwrap|format|tree|cost|check FILE
+       ./jslint fix|unwrap|mend|format|tree|cost|check FILE
        ./jslint check --spans --settings SETTINGS FILE
        ./jslint verify FILE TABLE
        ./jslint same FILE OTHER
 
-   Each takes `--edition 2020`, `--edition 2022` or `--module`. `-` is standard input, as one of the files. */
+   Each takes `--edition 2020`, `--edition 2022`, `--module` or `--any`. `-` is standard input, as one of the files. */
 #include "jslint.h"
 #include <stdio.h>
 #include <stdlib.h>
@@ -89,11 +89,11 @@ static int run(uint32_t language, uint32_t command, const char *name, const char
 }
 
 /* How many commands there are. */
-enum { COMMANDS = JSLINT_FORMAT + 1 };
+enum { COMMANDS = JSLINT_MEND + 1 };
 
 /* The number of a command's name, or COMMANDS. (`check --spans` has no name of its own.) */
 static uint32_t command_of(const char *name) {
-    static const char *const names[COMMANDS] = {"check", "tree", "fix", "cost", "verify", "unwrap", "", "same", "format"};
+    static const char *const names[COMMANDS] = {"check", "tree", "fix", "cost", "verify", "unwrap", "", "same", "format", "mend"};
     uint32_t command = 0;
     while (command < COMMANDS && strcmp(name, names[command])) {
         command++;
@@ -110,21 +110,29 @@ struct line {
 
 /* Takes a word and perhaps the one behind it, or answers that they make no sense: how many words were taken, or 0. */
 static int take(struct line *line, const char *word, const char *next) {
-    int is_check = line->command == JSLINT_CHECK;
+    int is_check = line->command == JSLINT_CHECK, has_settings = is_check || line->command == JSLINT_MEND;
     if (!strcmp(word, "--")) {
         return 1;
     }
+    if (!strcmp(word, "--any")) {
+        int is_well = line->language == JSLINT_UNSAID;
+        line->language = JSLINT_ANY;
+        return is_well;
+    }
     if (!strcmp(word, "--module")) {
-        int is_well = line->language != JSLINT_EDITION_2020;
+        int is_well = line->language != JSLINT_EDITION_2020 && line->language != JSLINT_ANY;
         line->language = JSLINT_MODULE;
         return is_well;
     }
     if (!strcmp(word, "--edition") && next && (!strcmp(next, "2020") || !strcmp(next, "2022"))) {
         int is_2020 = !strcmp(next, "2020"), is_module = line->language == JSLINT_MODULE;
+        if (line->language == JSLINT_ANY) {
+            return 0;
+        }
         line->language = is_module ? JSLINT_MODULE : is_2020 ? JSLINT_EDITION_2020 : JSLINT_EDITION_2022;
         return is_module && is_2020 ? 0 : 2;
     }
-    if (!strcmp(word, "--settings") && is_check && next) {
+    if (!strcmp(word, "--settings") && has_settings && next) {
         line->settings = next;
         return 2;
     }
@@ -139,8 +147,8 @@ static int take(struct line *line, const char *word, const char *next) {
     return 1;
 }
 
-static const char usage[] = "usage: jslint check [--spans] [--settings SETTINGS] FILE, jslint fix|unwrap|format|tree|cost FILE, jslint verify FILE TABLE, or jslint same FILE OTHER,"
-                            " each with --edition 2020|2022 or --module";
+static const char usage[] = "usage: jslint check [--spans] [--settings SETTINGS] FILE, jslint mend [--settings SETTINGS] FILE, jslint fix|unwrap|format|tree|cost FILE, jslint verify FILE TABLE, or jslint same FILE OTHER,"
+                            " each with --edition 2020|2022, --module or --any";
 
 int main(int count, char **words) {
     struct line line = {.command = count > 1 ? command_of(words[1]) : COMMANDS};
@@ -157,7 +165,7 @@ int main(int count, char **words) {
     if (line.files != (has_two ? 2 : 1)) {
         return refuse(usage);
     }
-    const char *second = line.command == JSLINT_CHECK ? line.settings : line.names[1];
+    const char *second = has_two ? line.names[1] : line.settings;
     if (second && !strcmp(line.names[0], "-") && !strcmp(second, "-")) {
         return refuse("read failed: -: both files are standard input");
     }

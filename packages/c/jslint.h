@@ -1,4 +1,4 @@
-/* jslint for C: the eight commands over bytes in memory, `check` in two forms, `format` without further words. docs/EMBEDDING.md says what is proved of them. */
+/* jslint for C: the nine commands over bytes in memory, `check` in two forms, `format` without further words. docs/EMBEDDING.md says what is proved of them. */
 #ifndef JSLINT_H
 #define JSLINT_H
 #include <stddef.h>
@@ -8,11 +8,12 @@ extern "C" {
 #endif
 
 /* JSLINT_SPANS is `check --spans`. */
-enum jslint_command { JSLINT_CHECK, JSLINT_TREE, JSLINT_FIX, JSLINT_COST, JSLINT_VERIFY, JSLINT_UNWRAP, JSLINT_SPANS, JSLINT_SAME, JSLINT_FORMAT };
+enum jslint_command { JSLINT_CHECK, JSLINT_TREE, JSLINT_FIX, JSLINT_COST, JSLINT_VERIFY, JSLINT_UNWRAP, JSLINT_SPANS, JSLINT_SAME, JSLINT_FORMAT, JSLINT_MEND };
 
 /* What is said of the language of scripts: nothing (the base profile, or what the settings of `check` say), the base profile, strict scripts of
-   ECMAScript 2022 (or what the settings say), modules of it. */
-enum jslint_language { JSLINT_UNSAID, JSLINT_EDITION_2020, JSLINT_EDITION_2022, JSLINT_MODULE };
+   ECMAScript 2022 (or what the settings say), modules of it; or that the first that accepts the script is taken, of the base profile, scripts of 2022 and
+   modules. */
+enum jslint_language { JSLINT_UNSAID, JSLINT_EDITION_2020, JSLINT_EDITION_2022, JSLINT_MODULE, JSLINT_ANY };
 
 struct jslint_outcome {
     size_t length;       /* how many bytes the answer has; where there is less room, its beginning stands there */

@@ -3,6 +3,7 @@
     import jslint
     jslint.fix('((a))')                                     'a;\\n'
     jslint.unwrap('x = (a); // c')                          'x = a; // c'
+    jslint.mend("typeof a == 'b' // c")                      "typeof a === 'b' // c"
     jslint.format('f( (a),b )')                             'f((a), b);\\n'
     jslint.check('debugger;')                               [Report(line=1, column=1, rule='no-debugger', message='debugger statement', severity='error')]
     jslint.spans('debugger;')                               [Span(start=0, end=9, rule='no-debugger', message='debugger statement')]
@@ -23,7 +24,7 @@ import re
 import threading
 
 LANGUAGES = {None: 0, '2020': 1, '2022': 2, 'module': 3}
-COMMANDS = {'check': 0, 'tree': 1, 'fix': 2, 'cost': 3, 'verify': 4, 'unwrap': 5, 'spans': 6, 'same': 7, 'format': 8}
+COMMANDS = {'check': 0, 'tree': 1, 'fix': 2, 'cost': 3, 'verify': 4, 'unwrap': 5, 'spans': 6, 'same': 7, 'format': 8, 'mend': 9}
 Report = collections.namedtuple('Report', 'line column rule message severity')
 Span = collections.namedtuple('Span', 'start end rule message')
 Answer = collections.namedtuple('Answer', 'bytes status is_refusal')
@@ -140,6 +141,11 @@ def fix(text, language=None):
 def unwrap(text, language=None):
     """The script as it stands, comments kept, without its unnecessary parentheses."""
     return _output('unwrap', text, language=language)
+
+
+def mend(text, settings='', language=None):
+    """The script as it stands, with the safe changes for what `check` reports of it under the same settings."""
+    return _output('mend', text, settings, language)
 
 
 def format(text, language=None):

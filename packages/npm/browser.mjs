@@ -7,5 +7,5 @@ async function compiled() {
   return WebAssembly.compile(await answer.arrayBuffer());
 }
 
-export const { run, check, spans, fix, unwrap, format, tree, treeText, cost, verify, same } = commandsOf(await compiled());
+export const { run, check, spans, fix, unwrap, mend, format, tree, treeText, cost, verify, same } = commandsOf(await compiled());
 export { Refused, indexOf } from './core.mjs';

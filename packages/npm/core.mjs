@@ -3,11 +3,11 @@
 // Nothing here is proved. What it has to keep: the four stretches of memory that a call is handed lie apart, are as long as it says, and stay
 // until the call is back; an instance in which a call did not come back is not called again.
 
-const COMMANDS = { check: 0, tree: 1, fix: 2, cost: 3, verify: 4, unwrap: 5, spans: 6, same: 7, format: 8 };
+const COMMANDS = { check: 0, tree: 1, fix: 2, cost: 3, verify: 4, unwrap: 5, spans: 6, same: 7, format: 8, mend: 9 };
 // What asks for a language; nothing asks for none.
 const LANGUAGES = { 2020: 1, 2022: 2, module: 3 };
 // Bytes of room for each byte of text at the first try. Where the answer is longer, the command runs again with all the room that it takes.
-const ROOM = { check: 2, tree: 48, fix: 3, cost: 24, verify: 0, unwrap: 1, spans: 2, same: 0, format: 2 };
+const ROOM = { check: 2, tree: 48, fix: 3, cost: 24, verify: 0, unwrap: 1, spans: 2, same: 0, format: 2, mend: 1 };
 const LEAST_ROOM = 16384;
 // Of an outcome: its length in 8 bytes, its status and whether it is a refusal in 4 each.
 const OUTCOME = 16;
@@ -303,6 +303,10 @@ export function commandsOf(module, runDeeper = () => null) {
     },
     fix: plain('fix'),
     unwrap: plain('unwrap'),
+    mend(text, options = {}) {
+      const { settings, language } = optionsOf(options, 'settings', 'language');
+      return output('mend', text, bytesOf(settings), language);
+    },
     format: plain('format'),
     treeText: plain('tree'),
     tree(text, options = {}) {

@@ -1,7 +1,7 @@
 /** A script or a second text: a string, or its UTF-8. */
 export type Text = string | Uint8Array;
 /** `spans` is `check --spans`. */
-export type Command = 'check' | 'tree' | 'fix' | 'cost' | 'verify' | 'unwrap' | 'spans' | 'same' | 'format';
+export type Command = 'check' | 'tree' | 'fix' | 'cost' | 'verify' | 'unwrap' | 'spans' | 'same' | 'format' | 'mend';
 
 /** The base profile, strict scripts of ECMAScript 2022, or its modules. Without one: the base profile, or for `check` and `spans` what the settings say. */
 export type Language = '2020' | '2022' | 'module';
@@ -63,6 +63,8 @@ export function spans(text: Text, options?: { settings?: Text; places?: 'indices
 export function fix(text: Text, options?: { language?: Language }): string;
 /** The script as it stands, comments kept, without its unnecessary parentheses. */
 export function unwrap(text: Text, options?: { language?: Language }): string;
+/** The script as it stands, with the safe changes for what `check` reports of it under the same settings. */
+export function mend(text: Text, options?: { settings?: Text; language?: Language }): string;
 /** The script in lines of 80 columns, comments and parentheses kept: `jslint format` without further words. */
 export function format(text: Text, options?: { language?: Language }): string;
 /** The tree. Places are indices into the string, as other parsers give them, or bytes. */

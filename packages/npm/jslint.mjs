@@ -62,5 +62,8 @@ async function hasWorker() {
   return threads !== null && WORKER.protocol === 'file:' && (await import('node:fs')).existsSync(WORKER);
 }
 
-export const { run, check, spans, fix, unwrap, format, tree, treeText, cost, verify, same } = commandsOf(module, await hasWorker() ? runDeeper : undefined);
+export const { run, check, spans, fix, unwrap, mend, format, tree, treeText, cost, verify, same } = commandsOf(
+  module,
+  await hasWorker() ? runDeeper : undefined
+);
 export { Refused, indexOf } from './core.mjs';

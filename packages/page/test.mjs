@@ -164,6 +164,10 @@ async function answers(browser) {
   expect('a character of two units', await type(browser, 'script', "'\u{1f600}'; debugger;"), /1:6 no-debugger/);
   expect('settings', await type(browser, 'settings', '[rules]\nno-debugger = false\n'), 'No report.');
   expect('a warning', await type(browser, 'settings', 'rules.no-debugger = "warn"'), /1:6 no-debugger debugger statement \(warning\)/);
+  expect('a set', await type(browser, 'settings', 'extends = "none"'), 'No report.');
+  expect('a rule over a set', await type(browser, 'settings', 'extends = "none"\nrules.no-debugger = 2'), /1:6 no-debugger debugger statement(?! \(warning)/);
+  expect('one rule alone', await type(browser, 'settings', 'only = ["no-var"]'), 'No report.');
+  expect('a refused option', await type(browser, 'settings', 'rules.no-undef = { typeof = 1 }'), /^Refused: bad settings/);
   expect('refused settings', await type(browser, 'settings', 'x'), 'Refused: bad settings at 1:2');
   await type(browser, 'settings', '');
 }

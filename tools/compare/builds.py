@@ -32,7 +32,7 @@ def of_script(given):
     """Whether a script was read, and the commands to which the two answer otherwise."""
     path, one, other = given
     differ, status, table = [], 2, b''
-    for command in ('check', 'tree', 'fix', 'unwrap', 'format', 'cost', 'verify', 'same'):
+    for command in ('check', 'tree', 'fix', 'unwrap', 'mend', 'format', 'cost', 'verify', 'same'):
         words = [command, '--', path]
         if command == 'verify':
             words.append(rows.file_of('table', table))

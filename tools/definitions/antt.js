@@ -19,7 +19,8 @@ class AnttError extends Error {}
 const EXAMPLES = /\/(?:language\/proofs\/examples|(?:early_errors|scopes|regular_expressions)\/proofs)\/(Trees|Sources|Tables|\w*Examples|\w*Rows)\.antt$/;
 // Modules that aren't loaded, by crate: they speak of the program's own values (its trees, devices, tables), not of texts and trees.
 const LEFT_OUT = {
-  source_text: 'specs: Io Memory Source LineBytes Located Writing',
+  source_text: 'specs: Io Memory Source Located Writing',
+  suppressions: 'specs: Sweeps Told',
   tokens: 'specs: Scanned Reading Closers TokenStarts States PunctuatorSets Sets Escaped Laws',
   tree: 'specs: Whole Places PartNumber RowNumber FlagBits KeptFlags Linked Growth TreeCode Node Labels Standing Building Witness',
   language: 'specs: Promises',
@@ -29,14 +30,16 @@ const LEFT_OUT = {
   rule_words: 'specs: Order Appends',
   node_rules: 'specs: KindNumbers Due Laws',
   reference_rules: 'specs: Laws',
+  native_prototypes: 'specs: Sets',
   private_members: 'specs: Sets',
   repetition_rules: 'specs: Chains Laws Seen',
   literal_rules: 'specs: Laws',
   number_precision: 'specs: Limbs Near',
+  pattern_analysis: 'specs: Read ReadReferences',
   text_rules: 'specs: Laws',
   value_rules: 'specs: Laws',
   flow_rules: 'specs: Laws Steps',
-  rules: 'specs: Toml ListsShown NameOrder Run RuleViews Used Nodes NodeRules Groups Refusals Lines',
+  rules: 'specs: Toml Misfits ListsShown NameOrder Run RuleViews Used Nodes NodeRules Groups Refusals Lines',
   estree_json: 'specs: Sent Primitives Table',
   regular_expressions: 'specs: Scanned',
 };
@@ -302,11 +305,14 @@ const LIBRARY = {
   option_to_list: [1, (o) => fromArray(o.a)],
   is_xid_start: [1, (c) => /^\p{XID_Start}$/u.test(String.fromCodePoint(c))],
   is_xid_continue: [1, (c) => /^\p{XID_Continue}$/u.test(String.fromCodePoint(c))],
+  // of General_Category one group alone is asked for
+  general_category: [1, (c) => (/^\p{M}$/u.test(String.fromCodePoint(c)) ? 'Mark' : 'none')],
+  in_group: [2, (group, category) => group === category],
 };
 const OPTION = { Some: new Constructor('Some', 1, 'Option', ''), None: new Constructor('None', 0, 'Option', '') };
 const { FLOATS, LIBRARY: FLOAT_WORDS } = floatWords({ Constructor, codes, narrow, text });
 Object.assign(LIBRARY, FLOAT_WORDS);
-const CONSTANTS = { binary64: '0', true: 'true', false: 'false', zero: '0', '[]': 'null', tt: '0', refl: '0' };
+const CONSTANTS = { Mark: "'Mark'", binary64: '0', true: 'true', false: 'false', zero: '0', '[]': 'null', tt: '0', refl: '0' };
 const FIXITY = {
   '≡': [4, 'n'],
   '||': [30, 'l'],
@@ -933,6 +939,7 @@ class Spec {
       }
       throw new AnttError(`${where}: ${moduleName} has no ${name}`);
     }
+    if (/^Rattle\.(unicode|ucd_\w+)\.specs\b/.test(moduleName)) return this.library(name) ?? { k: 'missing', name: moduleName + '.' + name };
     const declared = /^Rattle\.(\w+)\.specs\.declared\.(?:.*\.)?(\w+)\.TheVariants$/.exec(moduleName);
     if (declared && !/\.(?:option|result)\./.test(moduleName)) {
       const variants = this.enums.get(declared[1] + '.' + declared[2]) ?? [...this.enums].find(([k]) => k.endsWith('.' + declared[2]))?.[1];

@@ -1,5 +1,5 @@
 'use strict';
-// The definitions of scopes, bindings, references and reports (crates scopes, rule_words, node_rules, reference_rules, repetition_rules, flow_rules, literal_rules, text_rules, number_precision, value_rules, private_members and rules), run by antt.js, with what they say in the plain model's form.
+// The definitions of scopes, bindings, references and reports (crates scopes, rule_words, node_rules, reference_rules, repetition_rules, flow_rules, literal_rules, text_rules, number_precision, pattern_analysis, value_rules, private_members, native_prototypes and rules), run by antt.js, with what they say in the plain model's form.
 
 const path = require('node:path');
 const antt = require('./antt.js');
@@ -57,8 +57,10 @@ const REPORTING = [
   'literal_rules',
   'text_rules',
   'number_precision',
+  'pattern_analysis',
   'value_rules',
   'private_members',
+  'native_prototypes',
   'rules',
 ];
 

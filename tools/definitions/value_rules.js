@@ -11,7 +11,7 @@ const { parseOnly } = require(path.join(PLAIN_MODEL, 'parse.js'));
 const crates = path.join(__dirname, '../../crates');
 const MORE = { base: {}, script: { edition: 2022 }, module: { edition: 2022, module: true } };
 
-// the rules by their names, of a model that has the crates rule_words, number_precision and value_rules
+// the rules by their names, of a model that has the crates rule_words, number_precision, pattern_analysis and value_rules
 class ValueRules {
   constructor(model) {
     this.model = model;
@@ -44,7 +44,9 @@ class ValueRules {
 const rowsOfValueRules = () => rowsOf('value_rules', ['value rule']).map(({ texts: [text, name], language, want }) => ({ text, language, name, want }));
 
 function main() {
-  const rules = new ValueRules(new Model([...CRATES, ...['rule_words', 'number_precision', 'value_rules'].map((crate) => path.join(crates, crate))]));
+  const rules = new ValueRules(
+    new Model([...CRATES, ...['rule_words', 'number_precision', 'pattern_analysis', 'value_rules'].map((crate) => path.join(crates, crate))])
+  );
   const rows = rowsOfValueRules();
   let otherwise = 0;
   for (const row of rows) {

@@ -28,7 +28,8 @@ def package():
 
 
 def is_test(name):
-    return Override({'files': TESTS}).has([in_bytes(it) for it in os.path.relpath(name).split(os.sep)])
+    *folder, base = [in_bytes(it) for it in os.path.relpath(name).split(os.sep)]
+    return Override({'files': TESTS}).has(tuple(folder), base)
 
 
 def undefined(run, names):

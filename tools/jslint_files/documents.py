@@ -32,7 +32,7 @@ def as_eslint(name, outcome):
     columns, of_ends, seen = Columns(source or ''), Columns(source or ''), outcome.seen()
     ends = {it: of_ends.units_at(*it) for it in sorted({each.end for each in outcome.found if each.end})}
     messages = [(it, as_message(it, columns, ends)) for it in outcome.found]
-    directive = lambda it: {'suppressions': [{'kind': 'directive', 'justification': reason} for reason in it.reasons]}
+    directive = lambda it: {'suppressions': [{'kind': 'directive', 'justification': reason} for reason in it.reasons] + [{'kind': 'file', 'justification': ''}] * it.is_known}
     warnings = sum(it.is_noted or it.is_warning for it in seen)
     return {
         'filePath': absolute(name), 'messages': [made for it, made in messages if not it.is_suppressed],
@@ -67,12 +67,13 @@ def region_of(it, has_mark):
 def as_result(name, it, has_mark, ids):
     rule = it.rule or 'refused'
     result = {
-        'ruleId': rule, 'ruleIndex': ids.index(rule), 'level': 'note' if it.is_noted else 'warning' if it.is_warning else 'error',
+        # (a program may have rules of its own)
+        'ruleId': rule, **({'ruleIndex': ids.index(rule)} if rule in ids else {}), 'level': 'note' if it.is_noted else 'warning' if it.is_warning else 'error',
         'message': {'text': it.text + (f' (perhaps: {it.hint})' if it.hint else '')},
         'locations': [{'physicalLocation': {'artifactLocation': artifact(name), 'region': region_of(it, has_mark)}}],
     }
     because = lambda reason: {'kind': 'inSource', **({'justification': reason} if reason else {})}
-    return {**result, 'suppressions': [because(reason) for reason in it.reasons]} if it.is_suppressed else result
+    return {**result, 'suppressions': [because(reason) for reason in it.reasons] + [{'kind': 'external'}] * it.is_known} if it.is_suppressed else result
 
 
 def described(rule, text):

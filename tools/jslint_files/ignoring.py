@@ -18,6 +18,10 @@ PIECE = r'(?P<stars>\*+)|(?P<one>\?)|\\(?P<quoted>[\s\S])|\[(?P<not>[!^]?)(?P<se
 STAR, ANY = object(), object()
 
 
+class Ending(str):
+    """What a name ends in, behind a star."""
+
+
 class Pattern:
     def __init__(self, segments, is_back, is_folder):
         self.segments, self.is_back, self.is_folder = segments, is_back, is_folder
@@ -71,11 +75,13 @@ def segments_of(text):
 
 
 def segment_of(tokens):
-    """A segment as `ANY`, as a plain name, or as stars and tests of one character."""
+    """A segment as `ANY`, as a plain name, as what stands behind a star, or as stars and tests of one character."""
     if len(tokens) == 1 and tokens[0] is ANY:
         return ANY
     if all(isinstance(it, str) for it in tokens):
         return ''.join(tokens)
+    if tokens[0] is STAR and all(isinstance(it, str) for it in tokens[1:]):
+        return Ending(''.join(tokens[1:]))
     return [STAR if it is ANY else it.__eq__ if isinstance(it, str) else it for it in tokens]
 
 
@@ -99,7 +105,7 @@ def test_of(is_not, text):
 def fits(tokens, name):
     """Whether a segment is a name: after a fault it goes on behind the last star alone."""
     if isinstance(tokens, str):
-        return tokens == name
+        return name.endswith(tokens) if isinstance(tokens, Ending) else tokens == name
     at, token, star, begun = 0, 0, -1, 0
     while at < len(name):
         if token < len(tokens) and tokens[token] is STAR:
@@ -117,6 +123,11 @@ def fits(tokens, name):
 
 def matches(segments, names):
     """Whether segments are a path; at the end of a pattern `**` is one name or more, elsewhere none or more."""
+    if len(segments) == 2 and segments[0] is ANY and segments[1] is not ANY:
+        # (a pattern without a slash, as most are)
+        return fits(segments[1], names[-1])
+    if len(segments) != len(names) and not any(it is ANY for it in segments):
+        return False
     # (reached[n]: the segments so far are the first n names)
     reached = [True] + [False] * len(names)
     for number, segment in enumerate(segments):

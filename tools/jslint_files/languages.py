@@ -4,6 +4,7 @@ import re
 
 from .outcomes import Refused
 from .project import text_of
+from .words import RULED
 
 # All languages, in the order in which a text is tried, and which of them words leave. `--edition 2022` means what `edition = 2022` means in settings.
 ALL = ('2020', '2022', 'module')
@@ -54,7 +55,7 @@ class Languages:
         self.engine, self.project, self.settings_for, self.asked = engine, project, settings_for, asked(options)
         self.is_project, self.packages, self.left, self.folders = options['project'], {}, {}, {}
         # (`format` itself takes no settings, so the language that they say is to be named)
-        self.is_named = options['command'] != 'check' and options['settings'] is not None
+        self.is_named = options['command'] not in RULED and options['settings'] is not None
 
     def of(self, name):
         """The languages for a script, in the order in which they are tried."""

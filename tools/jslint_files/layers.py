@@ -5,10 +5,10 @@ file.
 """
 import os
 
-from .ignoring import in_bytes, patterns_of, verdict
+from .ignoring import in_bytes, matches, patterns_of
 from .outcomes import Refused
 from .rule_table import MOOT, RULES
-from .settings import Unfit, judge_own, judge_settings, read_toml
+from .settings import judge_own, judge_settings, line_of_fault, read_toml, unfit
 from .streams import Wrong, shown
 
 OVERRIDES, FILES, FORMAT = 'overrides', 'files', 'format'
@@ -58,7 +58,8 @@ def in_toml(value):
         return '[' + ', '.join(map(in_toml, value)) + ']'
     if isinstance(value, str):
         return json.dumps(value, ensure_ascii=False).replace('\x7f', '\\u007f')
-    return json.dumps(value, default=str)
+    # (of numbers and times what Python writes is TOML)
+    return json.dumps(value) if isinstance(value, bool) else str(value)
 
 
 def key_in_toml(key):
@@ -123,10 +124,24 @@ class Override:
     def __init__(self, table):
         self.patterns = patterns_of('\n'.join(table[FILES]).encode())
         self.settings = {key: value for key, value in table.items() if key != FILES}
+        # (by the parts of folders, which have many scripts)
+        self.folders = {(): False}
 
-    def has(self, parts):
-        """Whether it holds for a path, by its parts: for that itself, or for a folder on the way."""
-        return any(verdict(parts[:count], count < len(parts), [self.patterns] + [[]] * len(parts)) for count in range(1, len(parts) + 1))
+    def has(self, folder, base):
+        """Whether it holds for a path, by the parts of its folder and its last one: for that itself, or for a folder on the way."""
+        return self.has_folder(folder) or self.is_named((*folder, base), False)
+
+    def has_folder(self, parts):
+        known = len(parts)
+        while parts[:known] not in self.folders:
+            known -= 1
+        for count in range(known + 1, len(parts) + 1):
+            self.folders[parts[:count]] = self.folders[parts[:count - 1]] or self.is_named(parts[:count], True)
+        return self.folders[parts]
+
+    def is_named(self, parts, is_folder):
+        # (all patterns are of one folder, and the last one is the first here)
+        return next((not it.is_back for it in self.patterns if (not it.is_folder or is_folder) and matches(it.segments, parts)), False)
 
 
 class Layers:
@@ -134,7 +149,7 @@ class Layers:
 
     def __init__(self, rules=None, only=None):
         self.words = {**({'rules': rules} if rules else {}), **({'only': only} if only is not None else {})}
-        self.documents, self.made = {}, {}
+        self.documents, self.made, self.folders, self.held = {}, {}, {}, {}
 
     def read(self, path, text):
         """A document as its settings and its overrides; None where it goes to the program as it is."""
@@ -152,38 +167,40 @@ class Layers:
             return None
         if found is None or not self.words and not any(it in found for it in OWN):
             return None
-        return {key: value for key, value in found.items() if key != OVERRIDES}, found.get(OVERRIDES, [])
+        return {key: value for key, value in found.items() if key != OVERRIDES}, [Override(it) for it in found.get(OVERRIDES, [])]
 
     def judge(self, engine, path, text, asked):
         """Refuses a document that gives no settings: itself, or with one of its overrides."""
         # (the words are judged where they are read)
         judge_own(text, OWN)
         judge_settings(engine, text, asked, for_program)
-        settings, overrides = self.read(path, text) or ({}, [])
-        for number, it in enumerate(overrides):
-            try:
-                judge_settings(engine, document(over(settings, Override(it).settings)), asked)
-            except Refused as error:
-                words = f'with {OVERRIDES}.{number}: {error.words if isinstance(error, Unfit) else error}'
-                raise Unfit(words, 1, 1, words) from None
+        settings = has_own(text) and read_toml(text) or {}
+        for number in range(len(settings.get(OVERRIDES, []))):
+            why = fault_with(engine, settings, number, asked)
+            if why is not None:
+                head = f'with {OVERRIDES}.{number}'
+                line = line_of_fault(lambda it: (found := read_toml(it)) is not None and fault_with(engine, found, number, asked) is None, text)
+                raise unfit(f'{head}: {why}', head, line, f': {why}')
 
-    def parts_of(self, path, name):
-        """A script's path from a document's folder, by its parts; None for one that isn't below it."""
-        folder = os.path.dirname(os.path.realpath(path))
-        place = os.path.join(os.path.realpath(os.path.dirname(name)), os.path.basename(name))
-        parts = os.path.relpath(place, folder).split(os.sep)
-        return None if parts[0] == os.pardir else [in_bytes(it) for it in parts]
+    def parts_of(self, path, folder):
+        """A folder from that of a document, by its parts; None for one that isn't below it."""
+        if (path, folder) not in self.folders:
+            parts = os.path.relpath(os.path.realpath(folder), os.path.dirname(os.path.realpath(path))).split(os.sep)
+            self.folders[path, folder] = None if parts[0] == os.pardir else tuple(in_bytes(it) for it in parts if it != os.curdir)
+        return self.folders[path, folder]
 
     def holding(self, path, text, name):
         """Which overrides of a document hold for a script, by their numbers."""
-        found = self.read(path, text)
-        parts = self.parts_of(path, name) if found and found[1] else None
-        return [number for number, it in enumerate(found[1]) if Override(it).has(parts)] if parts else []
+        if (path, name) not in self.held:
+            found, (folder, base) = self.read(path, text), os.path.split(name)
+            parts = self.parts_of(path, folder) if found and found[1] else None
+            self.held[path, name] = () if parts is None else tuple(number for number, it in enumerate(found[1]) if it.has(parts, in_bytes(base)))
+        return self.held[path, name]
 
     def settings_of(self, path, text, name):
         """The settings of a script as a dictionary, and from where each of their keys is."""
         settings, overrides = self.read(path, text)
-        layers = [(path, settings), *((f'{path}, {OVERRIDES}.{it}', Override(overrides[it]).settings) for it in self.holding(path, text, name))]
+        layers = [(path, settings), *((f'{path}, {OVERRIDES}.{it}', overrides[it].settings) for it in self.holding(path, text, name))]
         layers += [('the words', self.words)] if self.words else []
         made, origins = {}, {}
         for where, layer in layers:
@@ -205,6 +222,19 @@ class Layers:
             settings = self.settings_of(path, text, name)[0]
             self.made[key] = document(settings), settings.get(FORMAT, {})
         return self.made[key]
+
+
+def fault_with(engine, settings, number, asked):
+    """Why a document gives no settings with one of its overrides; None where it does, or has fewer of them."""
+    overrides = settings.get(OVERRIDES, [])
+    if len(overrides) <= number:
+        return None
+    try:
+        judge_settings(engine, document(over(settings, {key: it for key, it in overrides[number].items() if key != FILES})), asked)
+    except Refused as error:
+        # (the lines of what is made here are none of the document's)
+        return str(error)
+    return None
 
 
 def has_toml():

@@ -6,7 +6,7 @@ import threading
 from .engine import Program, path_of_program
 from .streams import put
 
-COMMANDS = {'check': 0, 'tree': 1, 'fix': 2, 'cost': 3, 'verify': 4, 'unwrap': 5, 'spans': 6, 'format': 8}
+COMMANDS = {'check': 0, 'tree': 1, 'fix': 2, 'cost': 3, 'verify': 4, 'unwrap': 5, 'spans': 6, 'format': 8, 'mend': 9}
 LANGUAGE_NUMBERS = {None: 0, '2020': 1, '2022': 2, 'module': 3}
 # The stack of a thread that calls the library: scripts at both limits of nesting take 6 MiB.
 STACK = 16 << 20

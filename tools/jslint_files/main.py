@@ -1,26 +1,28 @@
 """usage: jslint-files [check] [--edition 2020|2022] [--module] [--settings FILE] [--format FORM] [--color WHEN] [--hints] [--ends] [--unsupported error|note] [--suppressions]
-                    [--max-warnings N] [--rule NAME=SEVERITY] [--only NAME] [--cache [--cache-location FILE]] [--project] [--no-ignore] [--allow-none] [--stdin NAME] [--summary] [--jobs N]
-                    [--files-from FILE] [--] [FILE ..]
+                    [--max-warnings N] [--rule NAME=SEVERITY] [--only NAME] [--baseline FILE [--write-baseline]] [--cache [--cache-location FILE]] [--project]
+                    [--no-ignore] [--allow-none] [--stdin NAME] [--summary] [--jobs N] [--files-from FILE] [--] [FILE ..]
        jslint-files fix --write|--diff [--edition 2020|2022] [--module] [--drop-comments] [--hints] [--unsupported error|note] [--project] [--no-ignore] [--allow-none]
                     [--stdin NAME] [--summary] [--jobs N] [--files-from FILE] [--] [FILE ..]
        jslint-files unwrap --write|--diff [--drop-casts] [the same, but for --drop-comments] [--] [FILE ..]
+       jslint-files mend --write|--diff|--check [--settings FILE] [--rule NAME=SEVERITY] [--only NAME] [the same, but for --drop-comments] [--] [FILE ..]
        jslint-files format --write|--diff|--check [--width N] [--indent N] [--tabs] [--commas none|lists|all] [--bare-arrows] [--fewest] [--drop-casts]
                     [--settings FILE] [the same, but for --drop-comments] [--] [FILE ..]
        jslint-files --explain RULE|E1..E37
-       jslint-files --print-config FILE | --init
+       jslint-files --print-config FILE | --print-layers | --init
        jslint-files --help|--version
 
-`fix` drops comments. So `fix --write` refuses a script that has any, and says how many, unless --drop-comments is there. `unwrap` and `format` keep them.
+`fix` drops comments. So `fix --write` refuses a script that has any, and says how many, unless --drop-comments is there. `unwrap`, `mend` and
+`format` keep them.
 
 What `jslint check` finds in several scripts, each report with its file's name, in the order of the files. Or several scripts are rewritten by
-`jslint fix`, `jslint unwrap` or `jslint format`.
+`jslint fix`, `jslint unwrap`, `jslint mend` or `jslint format`.
 
   FILE                a script, or a pattern such as 'src/**/*.js' (in quotes, so that the shell leaves it alone); ** follows no link to a folder
   --files-from FILE   the names that FILE has, each ended by a line feed, or by a zero byte if there is any; - is standard input
   --project           FILE may be a folder, the current one where none is named: its *.js, *.mjs and *.cjs, without links, node_modules and .git. What
                       .jslintignore, .gitignore, .git/info/exclude and git's core.excludesFile name is left alone, and what lies in node_modules, however it was
-                      named. Without --settings, each script is checked or formatted with the nearest jslint.toml above it. All these files are looked for up to
-                      the folder that has .git
+                      named. Without --settings, each script is checked, mended or formatted with the nearest jslint.toml above it. All these files are looked
+                      for up to the folder that has .git
   --no-ignore         looks at what is named and ignored all the same
   --allow-none        the status is 0 also where there was nothing to look at, and nothing is said
   --edition, --module the language of each script (jslint); with --edition 2022 modules are read too. Without --project a script named *.mjs is a module, and
@@ -28,7 +30,7 @@ What `jslint check` finds in several scripts, each report with its file's name, 
                       "type": "module"; each other script is tried as one of the base profile, of 2022, and as a module, but *.cjs and those with
                       "type": "commonjs" not as modules. Settings and words may leave fewer
   --stdin NAME        the script on standard input, as if it were the file NAME. Rewritten, it goes to standard output, or --diff shows how it differs
-  --settings FILE     for each script (jslint check --settings); of `format` its table `format`, and the language
+  --settings FILE     for each script (jslint check --settings, jslint mend --settings); of `format` its table `format`, and the language
   --rule NAME=WHAT    the rule is off, warn or error (0, 1, 2), whatever the settings say; may stand several times
   --only NAME         the rule is on, and no other one is but those that further words --only name
   --format unix       FILE:LINE:COLUMN: RULE TEXT, as GNU's compilers do (this is what is printed without --format)
@@ -42,16 +44,19 @@ What `jslint check` finds in several scripts, each report with its file's name, 
   --unsupported note  a script that is refused for such a thing, as far as the guess says so, is shown as a note and fails nothing (error: as ever). One with
                       a fault in a language that jslint reads fails
   --suppressions      `// jslint-disable-line RULE, RULE -- WHY` and `// jslint-disable-next-line` turn reports off, but for no-extra-parens
+  --baseline FILE     reports that FILE knows, by rule, file and text of the line, are left out, and count for nothing. With --write-baseline it is made: it knows what is
+                      reported now, and as before what was in scripts that aren't looked at
   --max-warnings N    the status is 0 with up to N reports, errors and warnings, and 1 with more
   --cache             what was found in unchanged scripts isn't looked for again: it stands in .jslintcache, or in the file that --cache-location names
   --summary           counts, in a line on standard error
   --print-config FILE what applies to the script, with --project or not, and from where: a key a line
+  --print-layers      the settings on standard input as JSON: what holds for all scripts, and the overrides; or why they are refused, with status 2
   --init              writes a first jslint.toml, from package.json and the names that the scripts use
   --explain WHAT      what the documents say of a rule, or of an early error
   --write             replaces each script by its rewritten text, if that differs: a new file beside it is renamed. The mode stays. Where a name is a
                       symbolic link, the file that it leads to is replaced. A script that changed since it was read is refused
   --diff              prints how the rewritten texts differ, as `diff -u` does, and writes no script
-  --check             prints the name of each script that isn't formatted, a line each, and writes no script
+  --check             prints the name of each script that `format` or `mend` would change, a line each, and writes no script
   --width, --indent, --tabs, --commas, --bare-arrows, --fewest
                       which lines `format` makes (jslint format), whatever the table `format` of the settings says: its keys have the names of these words
   --drop-comments     `fix --write` also where comments are lost
@@ -61,8 +66,8 @@ What `jslint check` finds in several scripts, each report with its file's name, 
 
 A script that is refused has one line, at 1:1 if the refusal names no place, on standard error where scripts are rewritten; it stays as it is. So has a
 jslint.toml that is refused; its scripts aren't looked at. Control characters in a name are shown as \\x1b, those that turn a text round as \\u{202e}. On
-a terminal, a line on standard error says how far it is after the first second. A script named check, fix, unwrap or format stands behind --. Where the
-first line of a script ends in CR LF, so do all lines of its fixed or formatted text; a byte order mark and a line of `#!` stay.
+a terminal, a line on standard error says how far it is after the first second. A script named check, fix, unwrap, mend or format stands
+behind --. Where the first line of a script ends in CR LF, so do all lines of its fixed or formatted text; a byte order mark and a line of `#!` stay.
 
 The status is 0 where nothing was found, or warnings alone; 1 where there is another report or a difference; 2 where a script was refused, there was none to look at, the words or
 the settings make no sense, or not all could be written (as ESLint's with --exit-on-fatal-error). After an interruption there is no new file, and each
@@ -90,7 +95,7 @@ from .project import Project
 from .reading import pass_on, read
 from .settings import Unfit
 from .streams import Wrong, say, shown, warn
-from .words import handed, has_hints, is_compared, judge, number_of_jobs, options_of
+from .words import RULED, handed, has_hints, is_compared, judge, number_of_jobs, options_of
 
 # How many scripts a thread takes at once, at most: one call of the program checks them.
 MOST_AT_ONCE = 256
@@ -103,21 +108,26 @@ class Run:
 
     def __init__(self, options, names, here):
         self.options, self.project, self.engine = options, Project(not options['no-ignore']), engine_of(here, handed(options))
-        self.is_check, self.advice, self.cache = options['command'] == 'check', Advice(), None
+        self.is_check, self.advice, self.cache, self.baseline = options['command'] == 'check', Advice(), None, None
         self.layers = Layers(rules_said(options['rule']), rules_left(options['only']))
         # (the names that are ignored; settings that are refused, by their names; how many scripts these are for)
         self.ignored, self.bad, self.unread = [], {}, 0
         self.names = self.named(names)
         guesses = Guesses(has_hints(options), options['unsupported'] == 'note')
+        if options['baseline'] is not None:
+            from .baseline import Baseline
+            self.baseline = Baseline(options['baseline'], options['write-baseline'])
+        # (of a script that is told of the text is asked for)
+        self.needs_text = options['format'] in TEXT_FORMS or self.baseline is not None
         if self.is_check:
             has_ends = options['ends'] or options['format'] in ('pretty', 'sarif')
             settings_for = self.settings_by(self.documents())
             languages = Languages(self.engine, options, self.project, settings_for)
             self.worker = Checker(self.engine, settings_for, languages, guesses, options['suppressions'], has_ends)
-            self.batches = Batches(self.engine, self.worker, has_ends or options['format'] in TEXT_FORMS)
+            self.batches = Batches(self.engine, self.worker, has_ends or self.needs_text)
             self.cache = self.cache_with([*map(str, (has_hints(options), options['unsupported'], options['suppressions'], has_ends))]) if options['cache'] else None
         else:
-            self.worker = self.formatter(guesses) if options['command'] == 'format' else self.rewriter(guesses)
+            self.worker = {'format': self.formatter, 'mend': self.mender}.get(options['command'], self.rewriter)(guesses)
         self.progress, self.tally = Progress(len(self.names)), Tally(options['summary'])
 
     def cache_with(self, words):
@@ -129,7 +139,7 @@ class Run:
         conditions_of = lambda it: (self.worker.settings_for(it), languages_of(it), *words, *ignores_of(it))
         path = self.options['cache-location'] or NAME
         try:
-            return Cache(path, self.engine.made_of(), conditions_of, self.options['format'] in TEXT_FORMS)
+            return Cache(path, self.engine.made_of(), conditions_of, self.needs_text)
         except OSError as error:
             warn(f'jslint-files: {shown(path)}: the cache is not used: {error.strerror}\n')
             return None
@@ -139,6 +149,10 @@ class Run:
             # (they may say the language)
             self.documents()
         return self.rewriter_with(Languages(self.engine, self.options, self.project, layers=self.layers), guesses, dict.fromkeys(self.names, ()))
+
+    def mender(self, guesses):
+        settings_for = self.settings_by(self.documents())
+        return self.rewriter_with(Languages(self.engine, self.options, self.project, settings_for), guesses, dict.fromkeys(self.names, ()), settings_for)
 
     def formatter(self, guesses):
         document_of = self.documents()
@@ -186,7 +200,7 @@ class Run:
     def asked_of_settings(self):
         """The language of which settings have to leave something: where scripts are rewritten, words for one go over settings."""
         found = asked(self.options)
-        return found if self.is_check or found == '2022' else None
+        return found if self.options['command'] in RULED or found == '2022' else None
 
     def leave_bad(self, found, texts):
         """Takes the scripts out whose settings are refused: these are told of instead, and all others are looked at."""
@@ -209,6 +223,8 @@ class Run:
             came = Outcome([why.found])
         except (OSError, MemoryError) as error:
             came = Outcome([Refused(f'not {done}: {error.strerror if isinstance(error, OSError) else "out of memory"}').found])
+        if self.baseline and name not in self.bad:
+            self.baseline.mark(name, came)
         if not came.is_told() or self.options['format'] not in TEXT_FORMS:
             came.text = None
         self.progress.step()
@@ -385,6 +401,9 @@ def main(words, here):
     if options['print-config'] is not None:
         say(config_of(options, options['print-config']))
         return 0
+    if options['print-layers']:
+        from .layers_json import say_layers
+        return say_layers(here)
     if not names and options['files-from'] is None and options['stdin'] is None and not options['project'] and not options['init']:
         raise Wrong('no file is named (--help)')
     if options['init']:
@@ -394,9 +413,11 @@ def main(words, here):
     run.tell(jobs)
     if run.cache:
         run.cache.write(run.names)
+    if options['write-baseline']:
+        run.baseline.write()
     if not run.names:
         run.tell_none()
     warn(run.advice.told(options['project']))
     if options['summary']:
-        warn(run.tally.told(options, len(run.ignored), run.unread))
+        warn(run.tally.told(options, len(run.ignored), run.unread, run.baseline.gone() if run.baseline else 0))
     return run.status()

@@ -5,14 +5,20 @@ import re
 from .reading import unread
 from .streams import Wrong, shown
 
+# No longer list is read.
+MOST_LISTED = 1 << 28
+
 
 def listed(path):
     """The names in a file."""
     try:
         with open(0 if path == '-' else path, 'rb', closefd=path != '-') as file:
-            text = file.read()
+            text = file.read(MOST_LISTED + 1)
+            why = f'longer than {MOST_LISTED} bytes' if len(text) > MOST_LISTED else None
     except OSError as error:
-        raise Wrong(f'{"standard input" if path == "-" else shown(path)}: {unread(error)}') from None
+        why = unread(error)
+    if why is not None:
+        raise Wrong(f'{"standard input" if path == "-" else shown(path)}: {why}')
     return [os.fsdecode(it) for it in text.split(b'\0' if b'\0' in text else b'\n') if it]
 
 

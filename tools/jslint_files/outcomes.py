@@ -22,16 +22,17 @@ def has_errors(answer):
 
 class Found:
     """What was found at a place of a script; a refusal has no rule. A warning fails nothing. Its `end`, if that was asked for, is a line and a column. A `hint` guesses what a refused
-    script has that the profile lacks. `reasons` are those of the comments that turn it off, each of which may be empty."""
+    script has that the profile lacks. `reasons` are those of the comments that turn it off, each of which may be empty; `is_known`: a baseline has it."""
 
-    hint, is_unsupported, is_noted, reasons, end = None, False, False, (), None
+    hint, is_unsupported, is_noted, is_known, reasons, end = None, False, False, False, (), None
 
     def __init__(self, line, column, rule, text, mark=''):
         self.line, self.column, self.rule, self.text, self.is_warning = int(line), int(column), rule, text, bool(mark)
 
     @property
     def is_suppressed(self):
-        return bool(self.reasons)
+        """Whether it is left out: a comment turns it off, or it is known."""
+        return self.is_known or bool(self.reasons)
 
     def status(self):
         return 0 if self.is_suppressed or self.is_noted or self.is_warning else 1 if self.rule else 2
@@ -77,7 +78,7 @@ class Outcome:
         return max([1 if self.difference or self.is_unformatted else 0, *(it.status() for it in self.list)])
 
     def seen(self):
-        """What isn't turned off by a comment."""
+        """What isn't left out."""
         return [it for it in self.found if not it.is_suppressed]
 
     def is_told(self):

@@ -38,7 +38,7 @@ class Tally:
 
     def __init__(self, has_rules):
         self.has_rules = has_rules
-        self.worst = self.scripts = self.refused = self.noted = self.casts = self.suppressed = self.changed = self.reports = 0
+        self.worst = self.scripts = self.refused = self.noted = self.casts = self.suppressed = self.known = self.changed = self.reports = 0
         self.rules = {}
 
     def add(self, outcome):
@@ -49,7 +49,7 @@ class Tally:
             return
         for it in outcome.found:
             if it.is_suppressed:
-                self.suppressed += 1
+                self.suppressed, self.known = self.suppressed + bool(it.reasons), self.known + it.is_known
             elif it.rule:
                 self.reports, self.rules[it.rule] = self.reports + 1, self.rules.get(it.rule, 0) + 1
             elif not it.is_noted:
@@ -57,12 +57,13 @@ class Tally:
             else:
                 self.noted, self.casts = self.noted + it.is_unsupported, self.casts + (not it.is_unsupported)
 
-    def told(self, options, ignored, unread):
-        """In a line: all that came, how many names are ignored, and how many scripts have settings that are refused. The rules with the most reports are first."""
+    def told(self, options, ignored, unread, gone):
+        """In a line: all that came, how many names are ignored, how many scripts have settings that are refused, and how many known reports aren't there any more. The
+        rules with the most reports are first."""
         scripts, done = plural(self.scripts, 'script'), 'to be rewritten' if is_compared(options) else 'rewritten'
         first = f'{plural(self.reports, "report")} in {scripts}' if options['command'] == 'check' else f'{self.changed} of {scripts} {done}'
-        more = [(self.refused, 'refused'), (self.noted, 'with what the profile lacks'), (self.casts, 'left for a cast'), (self.suppressed, 'turned off by comments'),
-                (ignored, 'ignored'), (unread, 'left for bad settings')]
+        more = [(self.refused, 'refused'), (self.noted, 'with what the profile lacks'), (self.casts, 'left for a cast'), (self.suppressed, 'turned off by comments'), (self.known, 'known'),
+                (gone, 'known but gone'), (ignored, 'ignored'), (unread, 'left for bad settings')]
         counts = ', '.join(f'{count} {rule}' for rule, count in sorted(self.rules.items(), key=lambda it: (-it[1], it[0])))
         return ', '.join([first, *(f'{count} {what}' for count, what in more if count)]) + (f': {counts}' if counts else '') + '\n'
 

@@ -1,4 +1,4 @@
-"""A script rewritten by `fix`, `unwrap` or `format`: in its place, as a difference, or to standard output."""
+"""A script rewritten by `fix`, `unwrap`, `mend` or `format`: in its place, as a difference, or to standard output."""
 import contextlib
 import errno
 import os
@@ -107,14 +107,14 @@ def hold_comments(engine, options, text):
         keep_comments(engine, text)
 
 
-def write_changed(engine, options, text, file):
+def write_changed(engine, options, text, file, settings):
     """Writes the rewritten text to a new file, with the line ends and the head of the script."""
-    status, _, err = engine.run(options['command'], text, out=file)
+    status, _, err = engine.run(options['command'], text, settings, out=file)
     if status or err:
         raise refusal(status, err, 'compared' if is_compared(options) else 'rewritten')
     command = options['command']
     head, is_cr = head_of(text, command), has_cr(text)
-    if command != 'unwrap' and (head or is_cr):
+    if command not in ('unwrap', 'mend') and (head or is_cr):
         keep_form(engine, command, file, head, is_cr)
 
 
@@ -146,9 +146,10 @@ def differs(file, text):
 class Rewriter:
     """Rewrites scripts by a command, or says how they would differ."""
 
-    def __init__(self, engine, options, languages, guesses, words_of):
-        """`words_of` has the words for the program's command, by the scripts' names. What answers with them is known before the first script is read."""
-        self.engine, self.options, self.languages, self.guesses, self.words_of = engine, options, languages, guesses, words_of
+    def __init__(self, engine, options, languages, guesses, words_of, settings_for=lambda it: b''):
+        """`words_of` has the words for the program's command, by the scripts' names. What answers with them is known before the first script is read.
+        `settings_for` gives the settings for a script, of a command that takes some."""
+        self.engine, self.options, self.languages, self.guesses, self.words_of, self.settings_for = engine, options, languages, guesses, words_of, settings_for
         self.engines = {it: engine.with_words(it) for it in {*words_of.values()}}
 
     def outcome(self, name, text=None):
@@ -175,7 +176,7 @@ class Rewriter:
     def replaced(self, engine, name, path, text):
         """Replaces a file by what the program makes of it."""
         with TRACES.new_file(os.path.dirname(path)) as (file, new):
-            write_changed(engine, self.options, text, file)
+            write_changed(engine, self.options, text, file, self.settings_for(name))
             if not differs(file, text):
                 return Outcome()
             cast = self.cast_in(engine, name, text, file)
@@ -188,7 +189,7 @@ class Rewriter:
     def made(self, engine, name, text, is_given):
         """How a text would differ; or the rewritten text, where there is no file to compare."""
         with TRACES.new_file(None) as (file, new):
-            write_changed(engine, self.options, text, file)
+            write_changed(engine, self.options, text, file, self.settings_for(name))
             is_changed = differs(file, text)
             cast = self.cast_in(engine, name, text, file) if is_changed else None
             if self.options['check']:

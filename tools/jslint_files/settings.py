@@ -65,7 +65,8 @@ def line_of_fault(is_taken, text):
     """Behind how many lines settings are wrong: the most lines from the first on that are taken, as far as few enough calls tell that."""
     lines = text.split(b'\n') if len(text) <= MOST_PLACED and not is_taken(text) else []
     for count in range(len(lines) - 1, max(len(lines) - MOST_LINES, 0) - 1, -1):
-        if is_taken(b'\n'.join(lines[:count])):
+        # (each with its line end, since a CR alone is none)
+        if is_taken(b''.join(it + b'\n' for it in lines[:count])):
             return count + 1
     return None
 
@@ -133,13 +134,13 @@ def faults(table, value, key=''):
         if wanted.get('type') == 'object':
             yield from (it for at, each in enumerate(value) for it in faults(wanted, each, f'{key}.{at}'))
             return
-        wish = "there is no such rule" if key == "only" else f"it takes {wish_of_items(wanted)}"
+        wish = "there is no such rule" if key.rpartition(".")[2] == "only" else f"it takes {wish_of_items(wanted)}"
         yield from (f"{key} has {in_toml(it)}: {wish}" for it in value if not fits(wanted, it))
         if len(value) > table.get('maxItems', len(value)):
             yield f'{key} has {len(value)} elements: it takes {table["maxItems"]} at most'
         twice = [it for at, it in enumerate(value) if it in value[:at]] if table.get('uniqueItems') else []
         yield from (f'{key} has {in_toml(it)} twice' for it in twice)
-    elif 'anyOf' in table and isinstance(value, dict):
+    elif 'anyOf' in table and isinstance(value, {'object': dict, 'array': list}[table['anyOf'][1]['type']]):
         yield from faults(table['anyOf'][1], value, key)
     elif not fits(table, value):
         yield f'{key} = {in_toml(value)}: it takes {wish_of(table)}'
@@ -171,7 +172,8 @@ def wish_of_items(table):
 
 def wish_of(table):
     if 'anyOf' in table:
-        return f'{", ".join(map(in_toml, table["anyOf"][0]["enum"]))} or a table with a severity or options'
+        more = {'object': 'a table with a severity or options', 'array': 'an array of these'}[table['anyOf'][1]['type']]
+        return f'{", ".join(map(in_toml, table["anyOf"][0]["enum"]))} or {more}'
     if table.get('type') == 'integer':
         return f'a number from {table["minimum"]} to {table["maximum"]}'
     return listed(table['enum']) if 'enum' in table else {'boolean': 'true or false', 'array': 'an array', 'object': 'a table'}.get(table['type'], f'a {table["type"]}')

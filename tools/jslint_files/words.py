@@ -4,19 +4,21 @@ import re
 
 from .streams import Wrong, shown
 
-COMMANDS = ('check', 'fix', 'unwrap', 'format')
+COMMANDS = ('check', 'fix', 'unwrap', 'mend', 'format')
 FORMS = ('unix', 'pretty', 'json', 'sarif', 'junit', 'github')
 FLAGS = (
     'help', 'version', 'module', 'write', 'diff', 'drop-comments', 'drop-casts', 'project', 'no-ignore', 'allow-none', 'hints', 'ends', 'suppressions', 'summary', 'init',
-    'check', 'tabs', 'bare-arrows', 'fewest', 'cache',
+    'write-baseline', 'check', 'tabs', 'bare-arrows', 'fewest', 'cache', 'print-layers',
 )
-VALUES = ('format', 'settings', 'jobs', 'files-from', 'stdin', 'color', 'unsupported', 'max-warnings', 'explain', 'edition', 'print-config', 'width', 'indent', 'commas', 'cache-location')
+VALUES = ('format', 'settings', 'jobs', 'files-from', 'stdin', 'color', 'unsupported', 'max-warnings', 'explain', 'edition', 'print-config', 'width', 'indent', 'commas', 'cache-location', 'baseline')
 # Those that may stand several times.
 LISTS = ('rule', 'only')
 # Those that `check` alone takes.
-CHECKING = ('format', 'color', 'ends', 'suppressions', 'max-warnings', 'explain', 'print-config', 'rule', 'only', 'init', 'cache', 'cache-location')
+CHECKING = ('format', 'color', 'ends', 'suppressions', 'max-warnings', 'explain', 'print-config', 'print-layers', 'init', 'cache', 'cache-location', 'baseline', 'write-baseline')
+# The commands that take settings, those that take words which go over them, and those that may only compare.
+SETTLED, RULED, COMPARED = ('check', 'mend', 'format'), ('check', 'mend'), ('mend', 'format')
 # Those that `format` alone takes, and of them those that the program is handed, with what holds without them.
-FORMATTING = ('check', 'width', 'indent', 'tabs', 'commas', 'bare-arrows', 'fewest')
+FORMATTING = ('width', 'indent', 'tabs', 'commas', 'bare-arrows', 'fewest')
 HANDED = {'width': '80', 'indent': '2', 'commas': 'all', 'tabs': False, 'bare-arrows': False, 'fewest': False}
 # From which number to which they go.
 RANGES = {'width': (40, 200), 'indent': (1, 8)}
@@ -63,9 +65,10 @@ def judge(options, names):
         raise Wrong("--module doesn't go with --edition 2020")
     for name in ('write', 'diff') if is_check else CHECKING:
         if options[name] not in (None, False, []):
-            raise Wrong(f'--{name} is for {"fix, unwrap and format" if is_check else "check"}')
-    if options['settings'] is not None and command not in ('check', 'format'):
-        raise Wrong('--settings is for check and format')
+            raise Wrong(f'--{name} is for {"fix, unwrap, mend and format" if is_check else "check"}')
+    for name, commands in {'settings': SETTLED, 'rule': RULED, 'only': RULED, 'check': COMPARED}.items():
+        if options[name] not in (None, False, []) and command not in commands:
+            raise Wrong(f'--{name} is for {", ".join(commands[:-1])} and {commands[-1]}')
     judge_formatting(options)
     if options['drop-comments'] and command != 'fix':
         raise Wrong('--drop-comments is for fix' + (f': {command} keeps them' if not is_check else ''))
@@ -83,6 +86,8 @@ def judge(options, names):
         raise Wrong('--max-warnings takes a number')
     if options['cache-location'] is not None and not options['cache']:
         raise Wrong('--cache-location is for --cache')
+    if options['write-baseline'] and options['baseline'] is None:
+        raise Wrong('--write-baseline is for --baseline, which names the file')
     if options['stdin'] is not None and options['cache']:
         raise Wrong('--cache is for files')
     if options['stdin'] is not None and (names or options['files-from'] is not None):
@@ -112,7 +117,7 @@ def judge_formatting(options):
 
 def judge_rewriting(options):
     command, is_stdin = options['command'], options['stdin'] is not None
-    ways = ['--write', '--diff', *(['--check'] if command == 'format' else [])]
+    ways = ['--write', '--diff', *(['--check'] if command in COMPARED else [])]
     asked = [it for it in ways if options[it[2:]]]
     if is_stdin and options['write']:
         raise Wrong('--stdin writes to standard output: --write is for files')

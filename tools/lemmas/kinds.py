@@ -14,7 +14,7 @@ import sys
 from lemmas import TOP
 
 # The word in the names of a kind (of `import(..)` not those of import declarations), ESTree's name, and the most files that may know it.
-KINDS = (('import_?(?:call|expression|given|production|start)|head_import(?!_meta)', 'ImportExpression', 71), ('(?<!no)(?<!no[-_])debugger', 'DebuggerStatement', 58))
+KINDS = (('import_?(?:call|expression|given|production|start)|head_import(?!_meta)', 'ImportExpression', 71), ('(?<!no)(?<!no[-_])debugger', 'DebuggerStatement', 64))
 SUFFIXES = ('.js', '.mjs', '.py', '.json', '.md')
 
 

@@ -7,7 +7,8 @@ A declaration is cited if its name is reached, by imports and names, from a sour
 from an example (a statement without variables is one), or from a document or tool that names it. Of a type its constructors count too, of a record not its
 fields. What only cites itself is cited by nothing. Names that a file has twice may hide one that is dead; none is called dead that is needed.
 
-Twins are runs of at least MOST lines that are equal but for blanks at their ends; comments, imports and empty lines aren't counted.
+Twins are runs of at least MOST lines that are equal but for blanks at their ends; comments, imports and empty lines aren't counted, nor is a table that
+tools/rules writes, up to the next empty line.
 
 `tools/lemmas/allowed.txt` lists what is allowed, with the reason: `dead FILE NAME ..: reason`, and for the twins of two files, whose lines are added up,
 `twin FILE FILE LINES: reason`. A line there that allows more than there is is refused too, so the list only gets shorter.
@@ -22,6 +23,8 @@ from lemmas import ANSWERS, TOP, crates_in_order, has_examples
 # The lines of a run that is called a twin.
 MOST = 8
 ALLOWED = 'tools/lemmas/allowed.txt'
+# What a comment says of a table that is made.
+MADE = 'tools/rules writes'
 NAME = re.compile(r'[^\s(){}\[\],;.@"]+')
 WHOLE = re.compile(r'(Rattle(?:\.\w+)+)\.([^\s(){}\[\],;.@"]+)')
 IMPORT = re.compile(r'^\s*(pub )?(?:ghost )?use ([^\s;{]+?)(?:\.?\{([^}]*)\})?(?: as ([^\s;]+))?;?\s*$')
@@ -197,11 +200,12 @@ class Repository:
 
 def lines_of(path):
     """The lines of a file that count, each with its number."""
-    mark = '--' if path.suffix == '.antt' else '//'
+    mark, is_made = '--' if path.suffix == '.antt' else '//', False
     with open(path, encoding='utf-8') as file:
         for number, line in enumerate(file, 1):
             line = line.strip()
-            if line and not line.startswith(mark) and not IMPORT.match(line) and not re.match(r'(?:pub )?mod ', line):
+            is_made = bool(line) and (is_made or line.startswith(mark) and MADE in line)
+            if line and not is_made and not line.startswith(mark) and not IMPORT.match(line) and not re.match(r'(?:pub )?mod ', line):
                 yield number, line
 
 

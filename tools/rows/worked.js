@@ -12,7 +12,7 @@ const { treeJson } = require('../model/json.js');
 const { LIMITS, parse, parseOnly } = require('../model/parse.js');
 const { extraPairs, plan, writeTable } = require('../model/plan.js');
 const { layout } = require('../model/print.js');
-const { RULE_NAMES, fromToml, runRules } = require('../model/rules.js');
+const { RULE_NAMES, fromToml, runRules, settingFault } = require('../model/rules.js');
 const { resolve } = require('../model/scopes.js');
 const { unwrapped } = require('../model/unwrap.js');
 const { linesColumns } = require('../compare/scripts.js');
@@ -344,9 +344,61 @@ const NOT_TOML = new Map([
   ['allow-null = true\nallow-null = true', 18],
 ]);
 
+// Those that show which key is told, and how: the first of several, each kind of value, long names and strange ones.
+const UNFIT_SETTINGS = [
+  'y = 1\nx = 2',
+  'rules.no-foo = 1\nx = 2',
+  'extends = "ten"\nrules.no-foo = 1',
+  'rules = { no-foo = 1, no-bar = 2 }',
+  'rules = { no-var = 3, no-bar = 2 }',
+  'rules = 1',
+  'rules.no-foo = { severity = 1 }',
+  'rules.no-foo = -9223372036854775808',
+  'rules.no-foo = +7',
+  'rules.no-foo = 1.5',
+  'rules.no-var.a.b = 1',
+  'extends = "ten"',
+  'extends = 1',
+  'extends = ["nine", "ten", "eleven"]',
+  'extends = ["nine", 1]',
+  'extends = [["nine"]]',
+  'only = ["no-var", "no-foo", "no-var"]',
+  'only = ["eqeqeq", "no-var", "eqeqeq", "no-var"]',
+  'only = ["no-with", 1]',
+  'globals = ["a", true]',
+  'globals = {}\nonly = 1',
+  'env = ["node", "deno"]\nglobals = ["a"]',
+  'env = { node = true }',
+  'edition = 2021',
+  'edition = "2022"\nsource-type = "x"',
+  'edition = 2022\nsource-type = "commonjs"',
+  'source-type = 1',
+  'edition = 2020\nsource-type = "module"',
+  'allow-comments = 1\nallow-null = 1',
+  'ignore-underscore = "a"\nallow-comments = []',
+  'rules.no-unused-vars = { args = "after", caught-errors = "x" }',
+  'rules.no-unused-vars = { caught-errors = "after-used" }',
+  'rules.no-unused-vars = { args-ignore = ["a*b"] }',
+  'rules.no-unused-vars = { vars-ignore = "_" }',
+  'rules.no-unused-vars = { ignore-rest-siblings = 1 }',
+  'rules.no-unused-vars = { severity = "maybe", args = 1 }',
+  'rules.no-shadow = { allow = [1] }',
+  'rules.no-shadow = { args = "all" }',
+  'rules.no-undef = { typeof = "yes" }',
+  `rules.${'a'.repeat(40)} = 1`,
+  `rules.${'a'.repeat(41)} = "${'b'.repeat(41)}"`,
+  `rules.${'a'.repeat(39)}-b.${'c'.repeat(50)} = "d"`,
+  `rules.no-var = "${'x'.repeat(200)}"`,
+  '"a b" = "c\\td"',
+  '"\u00e4\u20ac" = "\u{1f600}"',
+  '"" = ""',
+  'x = true',
+  'x = 1979-05-27',
+];
+
 function settingsRow(text) {
   const found = fromToml(Buffer.from(text));
-  if (found === null) return row('settings', text, NOT_TOML.has(text) ? `not TOML at byte ${NOT_TOML.get(text)}` : 'bad settings');
+  if (found === null) return row('settings', text, NOT_TOML.has(text) ? `not TOML at byte ${NOT_TOML.get(text)}` : `bad settings: ${settingFault(text)}`);
   const { rules, globals, allowNull, allowComments, ignoreUnderscore } = found;
   const both = (test) => `(${test(rules['no-var'])}, ${test(rules.eqeqeq)})`;
   const warned = [rules['no-var'], rules.eqeqeq].includes('warn') ? ` warned ${both((it) => it === 'warn')}` : '';
@@ -406,7 +458,7 @@ const calls = () => [
   '# What the rules report of a script under settings, from where to where, and that each keeps a report that stands in front. A rule that is',
   '# refused memory, behind `no-debugger`: that it was, alone and in a list, and the reports that stand in front. Another rule that finds what',
   '# `no-var` does, alone and behind it. Made by tools/rows/worked.js.',
-  ...SETTINGS.map(settingsRow),
+  ...[...SETTINGS, ...UNFIT_SETTINGS].map(settingsRow),
   ...['', 'a + (b);', '({}).a;', 'for (x = (a in b) && (c in d);;);'].flatMap(tableRows),
   ...[...new Set([...ACCEPTED, 'debugger; if (a == b) {} let c; { let c = (d); var e; }'])].filter(isShort).map(rulesRow),
   ...REFUSED.map(refusedRow),

@@ -4,9 +4,11 @@ import json
 import os
 import re
 
+from .changes import newest, numbers_of, versions_of
+from .files import TOP, read, specs_of_rules
+from .kind_sets import SPECS, unread
 from .moot import read_moot
-from .places import plain, read, stray_pages, wished
-from .reading import TOP
+from .places import plain, stray_pages, wished
 
 # A rule's name in definitions, as `called NoVar = codes "no-var"` or `record { called = codes "no-var"; .. }`.
 CALLED = re.compile(r'^[^\n"]*\bcalled\b[^\n"=]*= codes "([\w-]+)"', re.M)
@@ -37,8 +39,7 @@ def wrong_pages(rules, top):
 
 def names_of_crates(top):
     """The names of rules in the definitions of the crates of rules, each with its file."""
-    files = sorted(glob.glob(f'{top}/crates/*rules/specs/*.antt'))
-    return {name: os.path.relpath(path, top) for path in files for name in CALLED.findall(read(os.path.relpath(path, top), top))}
+    return {name: path for path in specs_of_rules(top) for name in CALLED.findall(read(path, top))}
 
 
 def wrong_names(rules, top):
@@ -48,28 +49,11 @@ def wrong_names(rules, top):
     yield from (f'rules/{name}.toml: no definition of the crates is called {name}' for name in known if name not in found)
 
 
-def variants_of(top):
-    """The names of rules by their variants in the definitions."""
-    files = sorted(glob.glob(f'{top}/crates/*rules/specs/*.antt'))
-    return dict(it for path in files for it in re.findall(r'^called (\w+) = codes "([\w-]+)"', read(os.path.relpath(path, top), top), re.M))
-
-
-def wrong_sets(rules, top):
-    """Sets of the definitions that have other rules than the files say."""
-    path = 'crates/rules/specs/RuleNames.antt'
-    text, variants = read(path, top) or '', variants_of(top)
-    for name, wanted in (('nine_rules', {it.name for it in rules if it.on}), ('recommended_rules', {it.name for it in rules if it.eslint})):
-        listed = re.search(rf'^{name} =\n(.*?)\n    ∷ \[\]$', text, re.M | re.S)
-        found = {variants.get(it, it) for it in re.findall(r'(\w+)$', listed[1], re.M)} if listed else wanted
-        yield from (f'rules/{it}.toml: {name} of {path} says otherwise' for it in sorted(found ^ wanted))
-
-
-def wrong_model(rules, top):
-    """Names of rules that the model in tools/model lacks, or has too many."""
-    lists = re.findall(r'^const (?:RULE_NAMES|OTHER_RULE_NAMES|NAMES_\w+) = \[(.*?)\];', read('tools/model/rules.js', top), re.M | re.S)
-    found, on = re.findall(r"'([\w-]+)'", ' '.join(lists)), {it.name for it in rules if it.on}
-    wanted = {it.name for it in rules} if len(lists) > 1 else on
-    yield from (f'tools/model/rules.js: {it} is missing in the lists of names, or too much' for it in sorted({*found} ^ wanted))
+def wrong_mends(rules, top):
+    """Rules whose change the definitions lack, or have though the file says nothing of it."""
+    path = 'crates/mending/specs/Changes.antt'
+    found, wanted = {*CALLED.findall(read(path, top) or '')}, {it.name for it in rules if it.fix == 'mend'}
+    yield from (f'rules/{it}.toml: {path} says otherwise of a change' for it in sorted(found ^ wanted))
 
 
 def wrong_moot(_, top):
@@ -80,17 +64,16 @@ def wrong_moot(_, top):
     yield from (f'rules/moot/{it}.toml: is_moot of {path} says otherwise' for it in sorted(found ^ wanted))
 
 
-def numbers_of(version):
-    return [int(it) for it in version.split('.')]
+def wrong_sets(_, top):
+    """Definitions among the sets of kinds that no code is written of."""
+    yield from (f'{SPECS}: {it} is no set of kinds, with a comment, and a line for each kind' for it in unread(read(SPECS, top) or ''))
 
 
 def wrong_versions(rules, top):
     """Each rule's version is one of CHANGELOG.md, or while that has unreleased entries a later one than all there."""
     text = read('CHANGELOG.md', top) or ''
-    versions = re.findall(r'^## (\d+\.\d+\.\d+)\b', text, re.M)
-    is_open = re.search(r'^## Unreleased$', text, re.M) and versions
-    newest = max(map(numbers_of, versions)) if is_open else None
-    unknown = [it for it in rules if it.since not in versions and not (newest and numbers_of(it.since) > newest)]
+    is_open = re.search(r'^## Unreleased$', text, re.M)
+    unknown = [it for it in rules if it.since not in versions_of(text) and not (is_open and numbers_of(it.since) > newest(text))]
     yield from (f'rules/{it.name}.toml: CHANGELOG.md has no version {it.since}' for it in unknown)
 
 
@@ -113,7 +96,7 @@ def wrong_numbers(_, top):
         yield from (f'{path}:{text.count(chr(10), 0, it.start()) + 1}: {" ".join(it[0].split())!r}: a number of rules, which no document says by hand' for it in COUNTED.finditer(text))
 
 
-CHECKS = (wrong_texts, wrong_pages, wrong_names, wrong_sets, wrong_moot, wrong_model, wrong_versions, wrong_options, wrong_numbers)
+CHECKS = (wrong_texts, wrong_pages, wrong_names, wrong_moot, wrong_mends, wrong_sets, wrong_versions, wrong_options, wrong_numbers)
 
 
 def faults(rules, top=TOP):

@@ -3,7 +3,8 @@ them, and they do nothing."""
 import os
 from dataclasses import dataclass
 
-from .reading import NAME, TOP, Refused, faults_of_keys, faults_of_texts, table_of
+from .files import TOP
+from .reading import NAME, Refused, faults_of_keys, faults_of_texts, table_of
 
 KEYS = {'name': (str, False), 'eslint': (list, False), 'description': (str, False), 'why': (str, False), 'refused': (list, False)}
 

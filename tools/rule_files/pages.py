@@ -38,11 +38,19 @@ def section_of_option(rule, option):
     return '\n\n'.join([f'`{setting(rule, option, option.value)}`: {option.reports} {texts[0]}', *texts[1:]])
 
 
+def section_of_changes(rule):
+    """What `mend` makes of what the rule reports."""
+    pairs = ''.join(f'-{before}\n+{after}\n' for before, after in rule.mends)
+    stay = f'\n\nReported, and left as it is:\n\n{code(rule.unmended)}' if rule.unmended else ''
+    return f'## What `mend` changes\n\n{rule.changes}\n\n```diff\n{pairs}```{stay}'
+
+
 def page(rule):
     """docs/rules/NAME.md"""
     parts = [f'# {rule.name}', f'{rule.description}.', rule.why, standing(rule), '## What it reports', rule.reports]
     parts += [f'Wrong, {TEXTS[rule.language]}:', code(rule.wrong), 'Right:', code(rule.right), rule.note]
     parts += ['## Settings', *(section_of_option(rule, it) for it in rule.options)] if rule.options else []
+    parts += [section_of_changes(rule)] if rule.mends else []
     parts += [rule.more, f'## {HEADING}', rule.differs]
     return '\n\n'.join(it for it in parts if it) + '\n'
 
@@ -74,8 +82,8 @@ def table(columns, rows):
 
 def index(rules):
     """The table of docs/rules/README.md."""
-    rows = [[link(it, ''), it.summary, ', '.join(f'`{each.key}`' for each in it.options), ', '.join(sets(it))] for it in rules]
-    return table(['Rule', 'Reports', 'Settings', 'Sets'], rows)
+    rows = [[link(it, ''), it.summary, ', '.join(f'`{each.key}`' for each in it.options), '' if it.fix == 'none' else f'`{it.fix}`', ', '.join(sets(it))] for it in rules]
+    return table(['Rule', 'Reports', 'Settings', 'Mended by', 'Sets'], rows)
 
 
 def set_rows(rules, folder):

@@ -5,9 +5,12 @@ import re
 from dataclasses import dataclass
 from typing import Callable
 
+from . import kind_sets, lists
+from .changes import changelog
+from .files import TOP, read
 from .moot import read_moot
 from .pages import index, moot_names, page, page_of_moot, readme_table, sets, usage_table
-from .reading import TOP, Refused
+from .reading import Refused
 
 # Between these two lines a document has what is made.
 IN_MARKDOWN = re.compile(r'^<!-- rules: tools/rules writes this -->\n(.*?)^<!-- end of rules -->$', re.M | re.S)
@@ -103,23 +106,29 @@ PLACES = (
     Place('share/fish/vendor_completions.d/jslint.fish', re.compile(r" -l explain -x -a '([^']*)'"), all_names),
 )
 # Files that are made as a whole.
-MODULE, PAGES = 'tools/jslint_files/rule_table.py', 'docs/rules'
+MODULE, MODEL, PAGES = 'tools/jslint_files/rule_table.py', 'tools/model/rule_sets.js', 'docs/rules'
 
 
-def read(path, top=TOP):
-    """A file's text, or None where there is none."""
-    if not os.path.isfile(f'{top}/{path}'):
-        return None
-    with open(f'{top}/{path}', encoding='utf-8', newline='') as file:
-        return file.read()
+def places_of_lists(top):
+    """The lists of the crate `rules`: in code by set, in the definitions by set, and there what is imported of the crates with rows."""
+    code = {'RULES': 'all', 'NINE': 'nine', 'RECOMMENDED': 'recommended'}
+    for name, of in code.items():
+        yield Place(lists.RULE_LIST, re.compile(rf'^pub(?:\(crate\))? const {name}: \[RuleName; (\d+\] = \[\n(?:    .*\n)*)\];$', re.M), lists.in_code(of, top))
+    for name in code.values():
+        yield Place(lists.RULE_NAMES, re.compile(rf'^{name}_rules =\n((?:    .*\n)*?)    ∷ \[\]$', re.M), lists.in_definitions(name, top))
+    for crate in lists.holders(top):
+        yield Place(lists.RULE_NAMES, re.compile(rf'^use Rattle\.{crate}\.specs\.declared\.\w+\.\w+\.TheVariants\.\{{(.*)\}}$', re.M), lists.imported(crate, top))
 
 
 def wished(rules, top=TOP):
     """Each file that has something of the rules: its text, and what it should be."""
     moot = read_moot(top)
-    found = {f'{PAGES}/{it.name}.md': page(it) for it in rules} | {f'{PAGES}/{it.name}.md': page_of_moot(it) for it in moot} | {MODULE: module(rules, moot)}
+    found = {f'{PAGES}/{it.name}.md': page(it) for it in rules} | {f'{PAGES}/{it.name}.md': page_of_moot(it) for it in moot}
+    found |= {MODULE: module(rules, moot), MODEL: lists.model(rules, moot)}
     texts = {path: (read(path, top), text) for path, text in found.items()}
-    for it in PLACES:
+    texts[kind_sets.CODE] = (old := read(kind_sets.CODE, top)), kind_sets.kind_sets(read(kind_sets.SPECS, top) or '', old or '')
+    texts['CHANGELOG.md'] = (old := read('CHANGELOG.md', top)), changelog(old or '', rules)
+    for it in (*PLACES, *places_of_lists(top)):
         old, new = texts.get(it.path) or (read(it.path, top),) * 2
         if old is None:
             raise Refused(f'{it.path}: there is no such file')

@@ -4,16 +4,17 @@ import os
 import re
 from dataclasses import dataclass
 
+from .files import TOP
+
 try:
     import tomllib
 except ImportError:
     tomllib = None
 
-TOP = os.path.dirname(os.path.dirname(os.path.dirname(os.path.realpath(__file__))))
 # on without settings since the first release; in `eslint:recommended` of ESLint 8 or 9; all others
 SETS = ('nine', 'recommended', 'other')
 # what mends a script: nothing, or a command
-FIXES = ('none', 'unwrap')
+FIXES = ('none', 'unwrap', 'mend')
 LANGUAGES = ('base', '2022', 'module')
 NAME = re.compile(r'[a-z]+(?:-[a-z]+)*')
 VERSION = re.compile(r'\d+\.\d+\.\d+')
@@ -57,6 +58,9 @@ class Rule:
     more: str
     differs: str
     options: tuple
+    changes: str
+    mends: tuple
+    unmended: tuple
 
 
 # The keys, with the type of each and whether it may be missing.
@@ -64,6 +68,7 @@ KEYS = {
     'name': (str, False), 'set': (str, False), 'eslint': (list, False), 'on': (bool, False), 'since': (str, False), 'fix': (str, False), 'language': (str, True),
     'description': (str, False), 'summary': (str, False), 'why': (str, True), 'reports': (str, False), 'wrong': (list, False), 'right': (list, False),
     'note': (str, True), 'more': (str, True), 'differs': (str, False), 'options': (list, True),
+    'changes': (str, True), 'mends': (list, True), 'unmended': (list, True),
 }
 OPTION_KEYS = {
     'key': (str, False), 'value': (str, False), 'tried': (str, True), 'schema': (str, True), 'beside': (str, True), 'description': (str, False), 'reports': (str, False),
@@ -96,6 +101,19 @@ def faults_of_texts(key, texts):
             yield f'{key!r}: {text!r} stands twice'
         elif '](' in text:
             yield f"{key!r}: {text!r} has '](', which those who show a page without its links take for one"
+
+
+def faults_of_mended(table):
+    """What is wrong with what `mend` changes: a rule that it mends has a text on it, and pairs of texts."""
+    for key in ('changes', 'mends'):
+        if (table['fix'] == 'mend') != (key in table):
+            yield f"{key!r} is for the rules whose 'fix' is 'mend', and each of them has it"
+    pairs = table.get('mends', [])
+    if all(type(it) is list and len(it) == 2 for it in pairs):
+        yield from faults_of_texts('mends', [it[0] for it in pairs])
+    else:
+        yield "'mends' has pairs of texts: one that is reported, and what it becomes"
+    yield from faults_of_texts('unmended', table.get('unmended', []))
 
 
 def faults_of_words(table):
@@ -139,7 +157,7 @@ def faults_of(file, table):
     """What is wrong with a file."""
     found = [*faults_of_keys(table, KEYS)]
     if not found:
-        found += [*faults_of_texts('wrong', table['wrong']), *faults_of_texts('right', table['right']), *faults_of_words(table)]
+        found += [*faults_of_texts('wrong', table['wrong']), *faults_of_texts('right', table['right']), *faults_of_words(table), *faults_of_mended(table)]
         if not NAME.fullmatch(table['name']) or f'{table["name"]}.toml' != file:
             found.append(f"'name' is {table['name']!r}, and not that of the file")
         for option in table.get('options', []):
@@ -154,7 +172,8 @@ def rule_of(table):
     options = tuple(option_of(it) for it in table.get('options', []))
     texts = {key: table.get(key, '').strip() for key, (type_, _) in KEYS.items() if type_ is str}
     texts['language'] = texts['language'] or 'base'
-    return Rule(**texts, on=table['on'], eslint=tuple(table['eslint']), wrong=tuple(table['wrong']), right=tuple(table['right']), options=options)
+    return Rule(**texts, on=table['on'], eslint=tuple(table['eslint']), wrong=tuple(table['wrong']), right=tuple(table['right']), options=options,
+                mends=tuple(map(tuple, table.get('mends', []))), unmended=tuple(table.get('unmended', [])))
 
 
 def table_of(path):

@@ -11,25 +11,28 @@ import recipes
 from libraries import tool
 from recipes import is_well, same
 
-COMMANDS = {'check', 'cost', 'fix', 'format', 'help', 'same', 'tree', 'unwrap', 'verify'}
+COMMANDS = {'check', 'cost', 'fix', 'format', 'help', 'mend', 'same', 'tree', 'unwrap', 'verify'}
 LANGUAGE = {'--edition', '--module'}
+# of the program alone
+ASKED_LANGUAGE = {*LANGUAGE, '--any'}
 SHARED = {*LANGUAGE, '--jobs', '--files-from', '--help', '--version', '--project', '--no-ignore', '--allow-none', '--stdin', '--hints', '--unsupported', '--summary'}
 REWRITING = {'--write', '--diff'} | SHARED
 FORMATTING = {'--check', '--width', '--indent', '--tabs', '--commas', '--bare-arrows', '--fewest', '--drop-casts', '--settings'}
-CHECKING = {'--settings', '--format', '--color', '--ends', '--suppressions', '--cache', '--cache-location', '--max-warnings', '--explain', '--rule', '--only', '--print-config', '--init'} | SHARED
+CHECKING = {'--settings', '--format', '--color', '--ends', '--suppressions', '--baseline', '--write-baseline', '--cache', '--cache-location', '--max-warnings', '--explain', '--rule', '--only', '--print-config', '--print-layers', '--init'} | SHARED
 SCRIPTS = {'a.js', 'two words.js'}
 # Words of a command line, the last one unfinished; what is offered for it; and what mustn't be.
 ASKED = [
     ('jslint ', COMMANDS, set()), ('jslint c', {'check', 'cost'}, {'fix'}), ('jslint -', {'--help', '--version'}, {'check'}),
-    ('jslint help ', COMMANDS - {'help'}, SCRIPTS), ('jslint check ', SCRIPTS, COMMANDS), ('jslint check -', {'--settings', '--spans', '--list', '--help', *LANGUAGE}, {'--version'}),
+    ('jslint help ', COMMANDS - {'help'}, SCRIPTS), ('jslint check ', SCRIPTS, COMMANDS), ('jslint check -', {'--settings', '--spans', '--list', '--help', *ASKED_LANGUAGE}, {'--version'}),
     ('jslint check --settings ', {'s.toml'}, COMMANDS), ('jslint unwrap ', SCRIPTS, COMMANDS), ('jslint verify ', SCRIPTS, COMMANDS), ('jslint same a.js ', SCRIPTS, COMMANDS),
-    ('jslint verify a.js ', {'table'}, COMMANDS), ('jslint fix -', {'--help', *LANGUAGE}, {'--settings', '--list', '--write'}),
-    ('jslint format -', {'--width', '--indent', '--tabs', '--commas', '--bare-arrows', '--fewest', '--check', '--help', *LANGUAGE}, {'--settings', '--write'}),
+    ('jslint verify a.js ', {'table'}, COMMANDS), ('jslint fix -', {'--help', *ASKED_LANGUAGE}, {'--settings', '--list', '--write'}),
+    ('jslint format -', {'--width', '--indent', '--tabs', '--commas', '--bare-arrows', '--fewest', '--check', '--help', *ASKED_LANGUAGE}, {'--settings', '--write'}),
     ('jslint format --commas ', {'none', 'lists', 'all'}, SCRIPTS), ('jslint format ', SCRIPTS, COMMANDS), ('jslint format --ch', {'--check'}, {'--commas'}),
-    ('jslint same --edition ', {'2020', '2022'}, SCRIPTS), ('jslint-files --edition ', {'2020', '2022'}, SCRIPTS), ('jslint help -', set(), LANGUAGE),
-    ('jslint-files ', {'check', 'fix', 'unwrap', 'format'} | SCRIPTS, {'tree'}), ('jslint-files -', CHECKING, {'--write'}),
+    ('jslint same --edition ', {'2020', '2022'}, SCRIPTS), ('jslint-files --edition ', {'2020', '2022'}, SCRIPTS), ('jslint help -', set(), ASKED_LANGUAGE),
+    ('jslint mend -', {'--settings', '--help', *ASKED_LANGUAGE}, {'--spans', '--write'}), ('jslint mend --settings ', {'s.toml'}, COMMANDS), ('jslint mend ', SCRIPTS, COMMANDS),
+    ('jslint-files ', {'check', 'fix', 'unwrap', 'mend', 'format'} | SCRIPTS, {'tree'}), ('jslint-files -', CHECKING, {'--write'}),
     ('jslint-files check -', CHECKING, {'--write'}), ('jslint-files fix -', REWRITING | {'--drop-comments'}, {'--settings', '--format', '--drop-casts'}),
-    ('jslint-files unwrap -', REWRITING | {'--drop-casts'}, {'--drop-comments', '--format', '--check', '--width'}), ('jslint-files format -', REWRITING | FORMATTING, {'--drop-comments', '--format'}),
+    ('jslint-files unwrap -', REWRITING | {'--drop-casts'}, {'--drop-comments', '--format', '--check', '--width'}), ('jslint-files mend -', REWRITING | {'--check', '--settings', '--rule', '--only'}, {'--drop-comments', '--drop-casts', '--format', '--width'}), ('jslint-files format -', REWRITING | FORMATTING, {'--drop-comments', '--format'}),
     ('jslint-files format --commas ', {'none', 'lists', 'all'}, SCRIPTS), ('jslint-files format ', SCRIPTS, {'fix'}), ('jslint-files unwrap ', SCRIPTS, {'fix'}),
     ('jslint-files --format ', {'unix', 'pretty', 'json', 'sarif', 'junit', 'github'}, SCRIPTS), ('jslint-files --unsupported ', {'error', 'note'}, SCRIPTS),
     ('jslint-files --color ', {'auto', 'always', 'never'}, SCRIPTS), ('jslint-files --explain ', {'no-var', 'prefer-const'}, SCRIPTS), ('jslint-files --settings ', {'s.toml'}, {'check'}), ('jslint-files format --settings ', {'s.toml'}, {'check'}),

@@ -34,7 +34,8 @@ def node_tests(room, *names):
     """How many tests of the server pass, in a copy of the package that each user may read. None fails; those that need git or another user may be skipped."""
     for it in (os.path.dirname(room.folder), room.folder):
         os.chmod(it, 0o755)
-    out, _ = ran([libraries.node(), '--test', '--test-reporter=tap', *(f'test/lsp/{it}.test.mjs' for it in names)], cwd=libraries.package(room.folder))
+    env = {**os.environ, 'JSLINT_FILES': f'{recipes.BIN}/jslint-files'}
+    out, _ = ran([libraries.node(), '--test', '--test-reporter=tap', *(f'test/lsp/{it}.test.mjs' for it in names)], cwd=libraries.package(room.folder), env=env)
     found = {name: int(number) for name, number in re.findall(r'^# (pass|fail|skipped) (\d+)$', out, re.M)}
     is_well(found['fail'] == 0 and found['skipped'] <= 1, found)
     return found['pass']
@@ -48,6 +49,11 @@ def server_units(room):
 def server_session(room):
     """Sessions by the protocol, and the recorded one."""
     is_well(node_tests(room, 'server', 'replay') >= 31)
+
+
+def server_layers(room):
+    """Settings with overrides, which jslint-files reads for it."""
+    is_well(node_tests(room, 'layers') >= 11)
 
 
 def server_hostile(room):
@@ -106,7 +112,7 @@ def vscode(_):
     wanted = {f'jslint.{name}': json.loads(value.replace("'", '"')) for name, value in re.findall(r'^  (\w+): \[(\[.*?\]|[^,]*), ', options, re.M)}
     same({name: it['default'] for name, it in properties.items()}, wanted)
     page = text_of(f'{TOP}/docs/EDITORS.md')
-    is_well(len(wanted) == 10 and all(f'| `{name.split(".")[1]}` | ' in page for name in wanted), wanted)
+    is_well(len(wanted) == 11 and all(f'| `{name.split(".")[1]}` | ' in page for name in wanted), wanted)
     same(package['version'], json.loads(text_of(f'{PACKAGES}/npm/package.json'))['version'])
     copied = re.fullmatch(r'cp (\S+/([\w.]+)) \.', package['scripts']['vscode:prepublish'])
     is_well(os.path.isfile(f'{folder}/{copied[1]}') and package['contributes']['tomlValidation'] == [{'fileMatch': 'jslint.toml', 'url': f'./{copied[2]}'}], package)
@@ -230,4 +236,4 @@ def emacs(room):
     ended_well(room, [*words, '-l', f'{room.folder}/init.el', '-l', f'{HERE}/emacs.el', 'a.js'], env)
 
 
-TESTS = [server_units, server_session, server_hostile, texts, vscode, installed, others, neovim, emacs, vim]
+TESTS = [server_units, server_session, server_layers, server_hostile, texts, vscode, installed, others, neovim, emacs, vim]

@@ -26,7 +26,7 @@ PACKED = {
     'LICENSE-APACHE', 'LICENSE-MIT', 'README.md', 'bin/eslint-json.mjs', 'bin/jslint-lsp.mjs', 'bin/jslint.mjs', 'bin/streams.mjs', 'browser.mjs', 'core.d.mts', 'core.mjs', 'eslint-json.d.mts', 'eslint-json.mjs',
     'jslint.d.mts', 'jslint.mjs', 'jslint.wasm', 'package.json', 'worker.mjs', 'lib/hints.json', 'lib/texts.json',
     *(f'lib/{it}.mjs' for it in (
-        'actions', 'beside', 'casts', 'changes', 'checking', 'connection', 'document', 'editor', 'edits', 'engine', 'frames', 'git', 'hinting', 'hints', 'ignore', 'jobs', 'languages', 'program', 'progress',
+        'actions', 'beside', 'casts', 'changes', 'checking', 'connection', 'document', 'editor', 'edits', 'engine', 'frames', 'git', 'hinting', 'hints', 'ignore', 'jobs', 'languages', 'layers', 'program', 'progress',
         'protocol', 'rewriting', 'server', 'settings', 'shown', 'suppressions', 'texts', 'thread', 'workspace')),
     *(f'lib/{it}.md' for it in (*RULES, *MOOT)),
 }
@@ -153,7 +153,7 @@ def python_example(room):
     with open(f'{folder}/jslint.py', encoding='utf-8') as file:
         said = file.read()
     wanted = re.findall(r'^    (jslint\.\S.*?)  +(\S.*)$', said, re.M)
-    is_well(len(wanted) == 9, wanted)
+    is_well(len(wanted) == 10, wanted)
     asked = '\n'.join(f'print(repr({call}))' for call, _ in wanted)
     out, _ = ran([sys.executable, '-c', f'import jslint\n{asked}'], cwd=folder)
     for found, (call, want) in zip(out.splitlines(), wanted):
@@ -301,7 +301,7 @@ def node_readme(room):
     wanted = re.findall(r'^(\w+\(.*);\s+// (\S.*)$', blocks, re.M)
     is_well(len(wanted) >= 8, wanted)
     checks = '\n'.join(f'assert.deepEqual({call}, {want});' for call, want in wanted)
-    asked = f"import assert from 'node:assert/strict';\nimport {{ check, cost, fix, format, same, spans, tree, unwrap, verify }} from './jslint.mjs';\n{checks}"
+    asked = f"import assert from 'node:assert/strict';\nimport {{ check, cost, fix, format, mend, same, spans, tree, unwrap, verify }} from './jslint.mjs';\n{checks}"
     ran([program, '--input-type=module', '-e', asked], cwd=made)
 
 
@@ -413,7 +413,7 @@ def by_node(folder):
 
 def by_emulator(words):
     """Answers by answers.c in a process of its own."""
-    process, numbers = subprocess.Popen(words, stdin=subprocess.PIPE, stdout=subprocess.PIPE), ['check', 'tree', 'fix', 'cost', 'verify', 'unwrap', 'spans', 'same', 'format']
+    process, numbers = subprocess.Popen(words, stdin=subprocess.PIPE, stdout=subprocess.PIPE), ['check', 'tree', 'fix', 'cost', 'verify', 'unwrap', 'spans', 'same', 'format', 'mend']
 
     def answers(name, text, second):
         second = second or b''

@@ -38,7 +38,7 @@ def each_alone(room):
     same(check(room, 'bug.js', 'fine.js', 'bug.js'), (1, f'bug.js:{FOUND}' * 2, ''))
     room.put('two.js', 'debugger;\n{}\n')
     for name in ('bug.js', 'fine.js', 'two.js', 'refused.js'):
-        for words in ((), ('--spans',), ('--module',), ('--edition', '2022'), ('--edition', '2020', '--spans')):
+        for words in ((), ('--spans',), ('--module',), ('--any',), ('--edition', '2022'), ('--edition', '2020', '--spans')):
             status, out, err = room.run(['jslint', 'check', *words, name])
             named = ''.join(f'{name}:{it}\n' for it in out.splitlines())
             same(check(room, name, words=words), (status, named, err.replace('jslint: ', f'jslint: {name}: ')), f'{name} {words}')
@@ -100,6 +100,16 @@ def settings(room):
     same(check(room, 'bug.js', words=('--settings', '-')), (2, '', 'jslint: read failed: -: both files are standard input\n'))
     room.put('list', 'bug.js\0bug.js')
     same(room.sh('jslint check --list list --settings - <s.toml'), (0, '', ''))
+
+
+def languages(room):
+    """With `--any` each file of a list is read in its own language; where none takes it, the line says which one got furthest."""
+    for name, text in (('base.js', 'await (1);\n'), ('later.js', 'async () => (1);\n'), ('module.js', 'export {};\ndebugger;\n'), ('none.js', 'export {}; a b\n')):
+        room.put(name, text)
+    lines = "base.js:1:1 no-undef 'await' is not defined\nlater.js:1:13 no-extra-parens unnecessary parentheses\nmodule.js:2:1 no-debugger debugger statement\n"
+    same(check(room, 'base.js', 'later.js', 'module.js', 'none.js', words=('--any',)), (2, lines, 'jslint: none.js: syntax error at 1:14 (as a module)\n'))
+    for words in ('--any --module', '--any --edition 2022', '--edition 2019 --any'):
+        same(room.sh(f'jslint check --list {words} none'), (2, '', "jslint: --any doesn't go with --edition or --module\n"))
 
 
 def no_list(room):
@@ -178,4 +188,4 @@ def changed_meanwhile(room):
     same((process.returncode, out.decode(), err.decode()), (2, f'waits.js:{FOUND}grown.js:{FOUND}', 'jslint: read failed: gone.js: missing\n'))
 
 
-TESTS = [each_alone, nothing_stops, odd_names, last_name, settings, no_list, very_many, failed_writes, interrupted, changed_meanwhile]
+TESTS = [each_alone, nothing_stops, odd_names, last_name, settings, languages, no_list, very_many, failed_writes, interrupted, changed_meanwhile]

@@ -23,7 +23,7 @@ from recipes import RIGHT, TOP, WRONG, is_well, same
 
 sys.path.insert(0, f'{TOP}/tools')
 from jslint_files import checking, hints  # noqa: E402
-from jslint_files.rule_table import MOOT, RULES  # noqa: E402
+from jslint_files.rule_table import MOOT, ON, RULES  # noqa: E402
 
 BUG, CLEAN, MODULE = 'debugger;\n', 'globalThis.a = 1;\n', 'export {};\n'
 FOUND_BUG = '1:1: no-debugger debugger statement\n'
@@ -338,6 +338,19 @@ def ends_time(_):
     is_well(time.process_time() - begun < 20)
 
 
+def the_record():
+    """The log that record.sarif stands for: before the rules of its own those that the files of rules tell, and in each result the number of its rule."""
+    with open(RECORD, encoding='utf-8') as file:
+        record = json.load(file)
+    run = record['runs'][0]
+    told = [{'id': name, 'shortDescription': {'text': text}, 'defaultConfiguration': ({} if name in ON else {'enabled': False}) | {'level': 'error'}} for name, text in RULES.items()]
+    run['tool']['driver']['rules'] = told + run['tool']['driver']['rules']
+    ids = [it['id'] for it in run['tool']['driver']['rules']]
+    for it in run['results']:
+        it['ruleIndex'] = ids.index(it['ruleId'])
+    return record
+
+
 def form_sarif(room):
     """The log is that of the record, and both have the structure of the standard."""
     put_odd(room)
@@ -346,8 +359,7 @@ def form_sarif(room):
     same((status, err), (2, ''))
     log = json.loads(out)
     version = room.run(['jslint', '--version'])[1].split()[1]
-    with open(RECORD, encoding='utf-8') as file:
-        record = json.load(file)
+    record = the_record()
     same(sarif.faults(record), [])
     record['runs'][0]['tool']['driver']['semanticVersion'] = version
     same(log, record)
@@ -376,8 +388,7 @@ CHANGES = [
 
 def sarif_check(_):
     """The check refuses a log that is changed in one place: else it would say nothing."""
-    with open(RECORD, encoding='utf-8') as file:
-        record = json.load(file)
+    record = the_record()
     is_well('suppressions' in record['runs'][0]['results'][4] and record['runs'][0]['results'][0]['locations'][0]['physicalLocation']['region']['startColumn'] > 1)
     for path, value in CHANGES:
         changed = copy.deepcopy(record)
@@ -644,7 +655,13 @@ def works(process):
         return True
 
 
+def endless_list(room):
+    """A list without an end is refused."""
+    same(room.sh('jslint-files --files-from - </dev/zero'), (2, '', f'jslint-files: standard input: longer than {1 << 28} bytes\n'))
+    same(room.sh('jslint-files --files-from /dev/zero'), (2, '', f'jslint-files: /dev/zero: longer than {1 << 28} bytes\n'))
+
+
 TESTS = [
-    odd_folders, unpermitted, recipe, standard_input, words, gone_folder, streams, long_files, form_pretty, progress, form_junit,
+    endless_list, odd_folders, unpermitted, recipe, standard_input, words, gone_folder, streams, long_files, form_pretty, progress, form_junit,
     form_json_ends, ends_unknown, ends_time, form_sarif, sarif_check, hint_rows, hint_time, unsupported, suppressions, counts, explained, library_and_program, which_library, no_build, shared_library, too_long_for_memory, interrupted,
 ]

@@ -27,7 +27,7 @@ ONLY_PARENS = b'[rules]\n' + b''.join(b'%s = false\n' % it.encode() for it in so
 
 
 # What stands before the call of a row of another language, the words for it, and the number and the name that the libraries have for it.
-LANGUAGES = {'script': (['--edition', '2022'], 2, '2022'), 'module': (['--module'], 3, 'module')}
+LANGUAGES = {'script': (['--edition', '2022'], 2, '2022'), 'module': (['--module'], 3, 'module'), 'any': (['--any'], 4, 'any')}
 # That of the row that is tried.
 LANGUAGE = None
 
@@ -98,7 +98,7 @@ def language_number():
 
 def by_program(name, text, second):
     words = [*WORDS.get(name, [name]), *language_words(), '--', file_of('script', text)]
-    if second is not None and name in ('check', 'spans'):
+    if second is not None and name in ('check', 'spans', 'mend'):
         words[1:1] = ['--settings', file_of('settings', second)]
     elif second is not None:
         words.append(file_of('table', second))
@@ -321,6 +321,13 @@ def ordered(name):
     return run
 
 
+def mended(texts, want):
+    """What `mend` answers under settings; a text that it writes is mended to itself."""
+    answer = command('mend', texts[0].encode(), texts[1].encode())
+    again = answer if answer.status else command('mend', answer.out.encode(), texts[1].encode())
+    return hold(outcome(answer) == want and (again.status, again.out) == (answer.status, answer.out), answer, again)
+
+
 def formatted(words):
     """What `format` answers with these words; a text that it writes is formatted to itself."""
     def run(texts, want):
@@ -338,7 +345,7 @@ def check_bytes(texts, want):
 
 
 def embedded(texts, want):
-    answer = command(texts[0], texts[1].encode(), texts[2].encode() if texts[0] in ('check', 'spans', 'verify', 'same') else None)
+    answer = command(texts[0], texts[1].encode(), texts[2].encode() if texts[0] in ('check', 'spans', 'mend', 'verify', 'same') else None)
     return hold(outcome(answer) == want, answer)
 
 
@@ -391,7 +398,7 @@ def run_of(texts, want, content):
     name, _, reader, writer, second, second_reader = (texts + [''] * 6)[:6]
     answers, bytes_written = split_answer(want)
     words = [*WORDS.get(name, [name]), *language_words(), '--', device('script', content, reader, want if not fails_at(second_reader) else '')]
-    if name in ('check', 'spans') and (second or second_reader):
+    if name in ('check', 'spans', 'mend') and (second or second_reader):
         words[1:1] = ['--settings', device('settings', second.encode(), second_reader, want)]
     elif name in ('verify', 'same'):
         words.append(device('second', second.encode(), second_reader, want))
@@ -419,9 +426,9 @@ def json_row(texts, want):
 
 
 # What the commands answer for `((a));`, with settings that turn its reports off, and with its table.
-ASKED = {'check': (0, ''), 'spans': (0, ''), 'fix': (0, 'a;\n'), 'unwrap': (0, 'a;'), 'cost': (0, 'jslint-cost 2\n1 Identifier\ntotal 0\n'), 'verify': (0, 'pairs 2 least 0\n'), 'tree': (0, None), 'same': (0, ''), 'format': (0, '((a));\n')}
+ASKED = {'check': (0, ''), 'spans': (0, ''), 'fix': (0, 'a;\n'), 'unwrap': (0, 'a;'), 'cost': (0, 'jslint-cost 2\n1 Identifier\ntotal 0\n'), 'verify': (0, 'pairs 2 least 0\n'), 'tree': (0, None), 'same': (0, ''), 'format': (0, '((a));\n'), 'mend': (0, '((a));')}
 OFF = b'[rules]\nno-undef = false\nno-extra-parens = false\n'
-SECONDS = {'check': OFF, 'spans': OFF, 'verify': ASKED['cost'][1].encode(), 'same': b'a'}
+SECONDS = {'check': OFF, 'spans': OFF, 'mend': OFF, 'verify': ASKED['cost'][1].encode(), 'same': b'a'}
 # And without settings.
 REPORTED = {
     'check': (1, "1:1 no-extra-parens unnecessary parentheses\n1:2 no-extra-parens unnecessary parentheses\n1:3 no-undef 'a' is not defined\n"),
@@ -437,7 +444,8 @@ def asked_of(name, want, has_second):
 
 
 # What is said of options that can't be taken.
-NO_LANGUAGE = {'Commas': 'jslint: --commas is none, lists or all\n', 'Edition': 'jslint: --edition is 2020 or 2022\n', 'Module': "jslint: --module doesn't go with --edition 2020\n"}
+NO_LANGUAGE = {'Commas': 'jslint: --commas is none, lists or all\n', 'Edition': 'jslint: --edition is 2020 or 2022\n', 'Module': "jslint: --module doesn't go with --edition 2020\n",
+    'Any': "jslint: --any doesn't go with --edition or --module\n"}
 
 
 def command_line(texts, want):
@@ -481,6 +489,7 @@ def command_line(texts, want):
 CALLS = {
     'begins': begins, 'run': run, 'run bytes': run_bytes, 'fixes': fixes, 'fix': fix, 'unwrap': unwrap, 'pairs': pairs, 'items': items, 'tree': tree, 'alike': alike,
     'early': early, 'extra': extra, 'plan': plan, 'check': ordered('check'), 'spans': ordered('spans'), 'cost': ordered('cost'), 'verify': ordered('verify'), 'same': ordered('same'),
+    'mend': mended,
     'check bytes': check_bytes, 'embedded': embedded, 'source': source, 'json': json_row, 'command line': command_line,
 }
 # Calls that say how the program treats its words, files and streams: a library has none.
@@ -504,9 +513,9 @@ def holder_of(name):
 
 
 def asks_command(row):
-    """Whether a row asks what a command answers, and not how the program treats its files."""
-    name = call_of(row[1])[1]
-    return name not in OF_PROGRAM and not (is_format(name) and ' ' in name)
+    """Whether a row asks what a command answers, and not how the program treats its files; the packages don't know `any`."""
+    language, name = call_of(row[1])
+    return language != 'any' and name not in OF_PROGRAM and not (is_format(name) and ' ' in name)
 
 
 def each_fifth(found):

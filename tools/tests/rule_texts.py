@@ -82,6 +82,19 @@ def said(option):
     return ('', ', '.join(filter(None, (option.beside, word)))) if option.schema else (f'{word}\n', '')
 
 
+def mended(room):
+    """The texts that `mend` changes become what their files say, and those that it leaves stay; all of them are reported. A changed text stays too."""
+    found, asked = [], [(rule, *pair) for rule in rules() for pair in (*rule.mends, *((it, it) for it in rule.unmended))]
+    is_well(len(asked) > 20, asked)
+    for rule, before, after in asked:
+        reported = is_reported(rule, checked(room, rule, before))
+        for text in (before, after):
+            room.put('a.js', text)
+            answer = room.run(['jslint', 'mend', *WORDS[rule.language], '--settings', 's.toml', 'a.js'])
+            found += [(rule.name, text, answer)] if (reported, answer) != (True, (0, after, '')) else []
+    same(found, [])
+
+
 def version_of(text):
     return [int(it) for it in text.split('.')]
 
@@ -105,7 +118,9 @@ def on_by_default(room):
 
 # ---- tools/rules
 
-FILES = ('README.md', 'CHANGELOG.md', 'tools/rules', 'tools/jslint_files/rule_table.py', 'tools/model/rules.js')
+RULE_LIST, RULE_NAMES, MODEL = 'crates/rules/src/rule_list.rt', 'crates/rules/specs/RuleNames.antt', 'tools/model/rule_sets.js'
+KIND_SETS = 'crates/node_rules/src/kind_sets.rt'
+FILES = ('README.md', 'CHANGELOG.md', 'tools/rules', 'tools/jslint_files/rule_table.py', MODEL, RULE_LIST, KIND_SETS, 'crates/mending/specs/Changes.antt')
 FOLDERS = ('rules', 'docs', 'share', 'tools/rule_files')
 
 
@@ -151,7 +166,7 @@ def rewritten(room):
     same(called(top), (0, '', ''))
     same(called(top, '--check'), (0, f'tools/rules: {count} rules, 0 faults\n', ''))
     same(contents(top), whole)
-    places = [it for it, text in whole.items() if b'no-inner-declarations' in text.replace(b'\\-', b'-') and not it.startswith(('rules/', 'crates/', 'CHANGELOG')) and it not in ('docs/rules/no-var.md', 'docs/DECISIONS.md', 'tools/model/rules.js')]
+    places = [it for it, text in whole.items() if b'no-inner-declarations' in text.replace(b'\\-', b'-') and not it.startswith(('rules/', 'crates/', 'CHANGELOG')) and it not in ('docs/rules/no-var.md', 'docs/DECISIONS.md')]
     is_well(len(places) > 8, places)
     for path in places:
         text = whole[path]
@@ -173,10 +188,11 @@ MALFORMED = [
     ('summary =', 'sumary =', "there is no key 'sumary'"), ('summary =', 'sumary =', "'summary' is missing"), ('name = "no-extra-semi"', 'name = "no-semi"', "'name' is 'no-semi', and not that of the file"),
     ('set = "recommended"', 'set = "best"', "'set' is 'best': it takes nine, recommended, other"), ('set = "recommended"', 'set = "other"', "'set' is 'other', and 'eslint' is [8]"), ('eslint = [8]', 'eslint = [7]', "'eslint' takes 8 and 9"),
     ('eslint = [8]', 'eslint = "8"', "'eslint' is not an array"), ('on = false', 'on = true', "'on' is for the rules of the set 'nine'"), ('on = false', 'on = 0', "'on' is not true or false"), ('since = "2.4.0"', 'since = "2.4"', "'since' is '2.4', and no version"),
-    ('fix = "none"', 'fix = "all"', "'fix' is 'all': it takes none, unwrap"), ('fix = "none"', 'fix = "none"\nlanguage = "2020"', "'language' is '2020': it takes base, 2022, module"), ('description = "', 'description = "A\\nB', "'description' has a line end"),
+    ('fix = "mend"', 'fix = "all"', "'fix' is 'all': it takes none, unwrap, mend"), ('fix = "mend"', 'fix = "none"', "'changes' is for the rules whose 'fix' is 'mend', and each of them has it"),
+    ('mends = [', 'mends = [["a"], ', "'mends' has pairs of texts: one that is reported, and what it becomes"), ('fix = "mend"', 'fix = "mend"\nlanguage = "2020"', "'language' is '2020': it takes base, 2022, module"), ('description = "', 'description = "A\\nB', "'description' has a line end"),
     ("    'a;;',\n", "    'a;;',\n    'a;;',\n", "'wrong': 'a;;' stands twice"), ("    'for (;;);',\n", "    'a;;',\n", "'a;;' is both wrong and right"), ("    'a;;',\n", "    '',\n", "'wrong': text 2 is not a string, is empty"), ("    'a;;',\n", '    1,\n', "'wrong': text 2 is not a string"),
     ("    'a;;',\n", "    'a[b](c);;',\n", "'wrong': 'a[b](c);;' has ']('"),
-    ('fix = "none"', 'fix = none', 'Invalid value (at line 6, column 7)'), ('wrong = [', 'name = "a"\nwrong = [', 'Cannot overwrite a value'),
+    ('fix = "mend"', 'fix = none', 'Invalid value (at line 6, column 7)'), ('wrong = [', 'name = "a"\nwrong = [', 'Cannot overwrite a value'),
 ]
 
 
@@ -240,8 +256,8 @@ def unlike_crates(room):
     same(faults_of(top), (0, []))
     change(f'{top}/{rows}', '"for-direction"', '"no-such-rule"')
     status, found = faults_of(top)
-    same((status, found[:2]), (1, [f'{rows}: no-such-rule has no rules/no-such-rule.toml', 'rules/for-direction.toml: no definition of the crates is called for-direction']))
-    is_well('rules/for-direction.toml: recommended_rules of crates/rules/specs/RuleNames.antt says otherwise' in found, found)
+    same((status, found[2:]), (1, [f'{rows}: no-such-rule has no rules/no-such-rule.toml', 'rules/for-direction.toml: no definition of the crates is called for-direction']))
+    same([it.partition(':')[0] for it in found[:2]], [RULE_LIST, RULE_NAMES], found)
     shutil.copy(f'{TOP}/{rows}', f'{top}/{rows}')
     same(faults_of(top), (0, []))
     os.rename(f'{top}/rules/no-var.toml', f'{top}/rules/no-vars.toml')
@@ -269,6 +285,63 @@ def unlike_crates(room):
         same([it for it in faults_of(top)[1] if later in it], said)
 
 
+def another_set(room):
+    """A rule that changes its set does so in code, in the definitions and in the model, and nothing else of these files changes."""
+    top = copied(room, 'top')
+    whole = contents(top)
+    change(f'{top}/rules/no-extra-semi.toml', 'set = "recommended"', 'set = "other"')
+    change(f'{top}/rules/no-extra-semi.toml', 'eslint = [8]', 'eslint = []')
+    same(called(top)[0], 0)
+    found, count = contents(top), sum(1 for it in rules() if it.eslint)
+    lines = [(RULE_LIST, f'RECOMMENDED: [RuleName; {count}]', f'RECOMMENDED: [RuleName; {count - 1}]'), (RULE_LIST, '    RuleName::OnNodes(NodeRule::NoExtraSemi),\n', ''), (RULE_NAMES, '    ∷ OnNodes NoExtraSemi\n', '')]
+    for path, old, new in lines:
+        whole[path] = new.join(whole[path].decode().rsplit(old, 1)).encode()
+    whole[MODEL] = whole[MODEL].replace(b"  'no-extra-semi',\n", b'', 1)
+    for it in (RULE_LIST, RULE_NAMES, MODEL):
+        same(found[it].decode(), whole[it].decode())
+    same(faults_of(top), (0, []))
+
+
+def sets_of_kinds(room):
+    """The code of a set of kinds is that of its definition: on one line, on a line of its own, and a line for each kind; a definition of another form is named."""
+    top, specs = copied(room, 'top'), 'crates/node_rules/specs/KindSets.antt'
+    kinds, code = ['ContinueStatement', 'BreakStatement', 'ReturnStatement', 'ThrowStatement'], contents(top)[KIND_SETS].decode()
+    arms = {1: '    matches!(kind, Kind::ContinueStatement)', 3: '    matches!(\n        kind,\n        Kind::ContinueStatement | Kind::BreakStatement | Kind::ReturnStatement\n    )',
+            4: '    matches!(\n        kind,\n        Kind::ContinueStatement\n            | Kind::BreakStatement\n            | Kind::ReturnStatement\n            | Kind::ThrowStatement\n    )'}
+    with open(f'{TOP}/{specs}', encoding='utf-8') as file:
+        definitions = file.read()
+    for count, body in arms.items():
+        with open(f'{top}/{specs}', 'w', encoding='utf-8') as file:
+            file.write(definitions + '\n-- `goto`\nabbrev pub goes : Kind → Bool\n' + ''.join(f'goes {it} = true\n' for it in kinds[:count]) + 'goes _ = false\n')
+        same(called(top), (0, f'tools/rules: wrote {KIND_SETS}\n', ''))
+        same(faults_of(top), (0, []))
+        wanted = code.replace('gets_value, has_body', 'gets_value, goes, has_body') + f'\n/// Whether it is the kind of `goto`.\npub(crate) fn goes(kind: Kind) -> bool\n    ensures {{ result ≡ goes kind }}\n{{\n{body}\n}}\n'
+        same(contents(top)[KIND_SETS].decode(), wanted)
+    change(f'{top}/{specs}', 'goes _ = false', 'goes kind = is_if kind')
+    same(called(top)[0], 0)
+    same(faults_of(top), (1, [f'{specs}: goes is no set of kinds, with a comment, and a line for each kind']))
+
+
+def new_rules(room):
+    """CHANGELOG.md has a line on the rules that no version has, and keeps what else stands there."""
+    top = copied(room, 'top')
+    with open(f'{top}/CHANGELOG.md', encoding='utf-8') as file:
+        head, _, versions = re.sub(r'^## Unreleased\n.*?(?=^## )', '', file.read(), flags=re.M | re.S).partition('## ')
+    told = '- New rule, off without settings: `yoda` ([page](docs/rules/yoda.md)). ESLint doesn\'t recommend it.\n'
+    both = '- New rules, off without settings: `use-isnan`, `yoda` ([pages](docs/rules/README.md)). `extends = "recommended"` turns `use-isnan` on, as ESLint does.\n'
+    change(f'{top}/rules/yoda.toml', 'since = "2.5.0"', 'since = "99.0.0"')
+    for before, after in [('', f'## Unreleased\n\n{told}\n'), ('## Unreleased\n\n- A.\n- B.\n\n', f'## Unreleased\n\n{told}- A.\n- B.\n\n'), ('## Unreleased\n\n- A.\n- New rule, off without settings: `a`.\n- B.\n\n', f'## Unreleased\n\n- A.\n{told}- B.\n\n')]:
+        with open(f'{top}/CHANGELOG.md', 'w', encoding='utf-8') as file:
+            file.write(f'{head}{before}## {versions}')
+        is_well(any(it.startswith('CHANGELOG.md:') for it in faults_of(top)[1]))
+        same(called(top)[0], 0)
+        same(contents(top)['CHANGELOG.md'].decode(), f'{head}{after}## {versions}')
+        same(faults_of(top), (0, []))
+    change(f'{top}/rules/use-isnan.toml', 'since = "2.4.0"', 'since = "99.0.0"')
+    same(called(top)[0], 0)
+    same(contents(top)['CHANGELOG.md'].decode(), f'{head}## Unreleased\n\n- A.\n{both}- B.\n\n## {versions}')
+
+
 def numbers_by_hand(room):
     """A number of rules in a document, in words or digits, but not in backticks, nor in CHANGELOG.md."""
     top = copied(room, 'top')
@@ -285,4 +358,4 @@ def numbers_by_hand(room):
     same(faults_of(top), (0, []))
 
 
-TESTS = [texts, refused, options, all_known, on_by_default, rewritten, refused_files, refused_places, unlike_crates, numbers_by_hand]
+TESTS = [texts, refused, options, mended, all_known, on_by_default, rewritten, refused_files, refused_places, unlike_crates, another_set, sets_of_kinds, new_rules, numbers_by_hand]

@@ -62,7 +62,7 @@ function compare(room, command, { file, name, text }, second) {
 function compareAll(room, file, name = file) {
   const script = { file, name, text: readFileSync(file) };
   counts.scripts++;
-  for (const command of ['check', 'tree', 'unwrap']) compare(room, command, script);
+  for (const command of ['check', 'tree', 'unwrap', 'mend']) compare(room, command, script);
   const fixed = compare(room, 'fix', script);
   if (!fixed.isRefusal) for (const more of ['', 'a;']) compare(room, 'same', script, Buffer.from(fixed.text + more));
   compare(room, 'check', script, SETTINGS);

@@ -54,7 +54,9 @@ fn of_commands(alloc: Global, row: &Case, out: &mut String) -> Result<(), AllocE
     match row.text(0) {
         "run" => runs::push_run(alloc, row, row.text(2).as_bytes(), out),
         "run bytes" => runs::push_run_bytes(alloc, row, out),
-        "check" | "spans" | "cost" | "verify" | "same" => runs::push_command(alloc, row, out),
+        "check" | "spans" | "mend" | "cost" | "verify" | "same" => runs::push_command(
+            alloc, row, out,
+        ),
         "check bytes" => runs::push_second_bytes(alloc, row, out),
         "check by ten" | "spans by ten" => runs::push_with_tenth(alloc, row, out),
         "gauged run" => runs::push_gauged(alloc, row, out),

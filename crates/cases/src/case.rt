@@ -1,5 +1,5 @@
 //! Lines of a file of rows: a call, its texts and what it is to answer, with tabs between them. `script ` or `module ` before the call says that
-//! its texts are of ECMAScript 2022; without it they are of the base profile. A control character is written as its
+//! its texts are of ECMAScript 2022, `any ` that each language is tried; without it they are of the base profile. A control character is written as its
 //! picture (U+2400 to U+241F), so a line feed as `␊`, and what stands so many times as `⟦a×12⟧`. Empty lines, and those that begin with
 //! `#`, are no rows.
 
@@ -11,6 +11,8 @@ use std::alloc::{AllocError, Global};
 pub(crate) struct Case {
     /// The language of its texts.
     language: Language,
+    /// Whether each language is tried.
+    is_any: bool,
     /// The call, then its texts.
     texts: Vec<String>,
     want: String,
@@ -19,9 +21,11 @@ pub(crate) struct Case {
 impl Case {
     /// The row of a line.
     pub(crate) fn of(alloc: Global, line: &str) -> Result<Case, AllocError> {
-        let (language, behind) = language_of(line);
+        let (is_any, behind) = any_of(line);
+        let (language, behind) = language_of(behind);
         let mut row = Case {
             language,
+            is_any,
             texts: Vec::new(alloc),
             want: String::new(alloc),
         };
@@ -32,6 +36,11 @@ impl Case {
     /// The language of the row's texts.
     pub(crate) fn language(&self) -> Language {
         self.language
+    }
+
+    /// Whether each language is tried for the row's texts.
+    pub(crate) fn is_any(&self) -> bool {
+        self.is_any
     }
 
     /// Takes the texts of a line, of which the last is the answer.
@@ -61,6 +70,14 @@ impl Case {
     /// The number that a text is; else 0.
     pub(crate) fn number(&self, index: usize) -> usize {
         self.text(index).parse::<usize>().unwrap_or(0)
+    }
+}
+
+/// Whether a line says that each language is tried, and what stands behind that.
+fn any_of(line: &str) -> (bool, &str) {
+    match line.strip_prefix("any ") {
+        Some(behind) => (true, behind),
+        None => (false, line),
     }
 }
 

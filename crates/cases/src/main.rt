@@ -24,6 +24,7 @@ mod heights;
 mod kept;
 mod kinds;
 mod lexemes;
+mod mended;
 mod node_rule_rows;
 mod nodes;
 mod parsed;

@@ -4,6 +4,7 @@ use crate::case::Case;
 use crate::devices::{plan, push_answer};
 use crate::finished::{push_nodes, push_row_counts};
 use crate::kept::{push_kept, push_reading, push_retained};
+use crate::mended::push_mended;
 use crate::node_rule_rows::push_node_rule;
 use crate::nodes::{push_copy, push_equal_copy};
 use crate::plans::{push_extra, push_extra_pairs, push_gauged_table, push_plan};
@@ -182,6 +183,7 @@ fn push_shown(
             push_rule_alone(alloc, row, program, out)
         },
         "alike" => push_alike(alloc, program, row, out),
+        "mended" => push_mended(alloc, row, parsed, out),
         "kept" => push_kept(alloc, parsed, row, out),
         "retained" => push_retained(alloc, parsed, row, out),
         "reading" => push_reading(alloc, parsed, row.text(1), out),

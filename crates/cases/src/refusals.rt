@@ -75,6 +75,9 @@ fn hint(word: &str) -> Hint {
         "2022" => Hint::Edition2022,
         "module" => Hint::Module,
         "unknown" => Hint::Unknown,
+        "in base" => Hint::InBase,
+        "in script" => Hint::InScript,
+        "in module" => Hint::InModule,
         _ => Hint::Nothing,
     }
 }

@@ -128,7 +128,8 @@ fn push_settings_error(error: SettingsError, out: &mut String) -> Result<(), All
     match error {
         SettingsError::Memory => Err(AllocError),
         SettingsError::NotToml(at) => write!(out, "not TOML at byte {at}"),
-        SettingsError::Unfit => out.push_str("bad settings"),
+        SettingsError::TooLong => out.push_str("too long"),
+        SettingsError::Unfit(fault) => write!(out, "bad settings: {}", fault.text().as_str()),
     }
 }
 

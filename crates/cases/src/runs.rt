@@ -7,7 +7,9 @@ use crate::case::Case;
 use crate::devices::{bytes_of, plan, push_answer, push_bytes};
 use crate::gauge::Gauge;
 use crate::reports::AnyScript;
-use commands::{Command, FormatChoice, LanguageChoice, Refused, ReportForm, write_refusal};
+use commands::{
+    AskedLanguage, Command, FormatChoice, LanguageChoice, Refused, ReportForm, write_refusal,
+};
 use language::Language;
 use lint::run::run;
 use rules::{RULES, Rule};
@@ -28,6 +30,7 @@ pub(crate) fn command(word: &str) -> Command {
         "spans" => Command::Check(ReportForm::Spans),
         "tree" => Command::Tree,
         "unwrap" => Command::Unwrap,
+        "mend" => Command::Mend,
         "format" => Command::Format(FormatChoice::DEFAULT),
         "cost" => Command::Cost,
         "verify" => Command::Verify,
@@ -37,7 +40,7 @@ pub(crate) fn command(word: &str) -> Command {
 }
 
 /// The choice of a language: a call that asks for the base profile says nothing.
-pub(crate) fn choice(language: Language) -> LanguageChoice {
+fn choice(language: Language) -> LanguageChoice {
     match language {
         Language::Base => LanguageChoice::Unsaid,
         Language::Script => LanguageChoice::Edition2022,
@@ -45,11 +48,19 @@ pub(crate) fn choice(language: Language) -> LanguageChoice {
     }
 }
 
+/// How a row says the language of its texts.
+pub(crate) fn asked(row: &Case) -> AskedLanguage {
+    if row.is_any() {
+        return AskedLanguage::Any;
+    }
+    AskedLanguage::Said(choice(row.language()))
+}
+
 /// A run: its command and its language, what stands in both files, the plans of their readers, and whether a rule stands behind the others.
 #[derive(Clone, Copy)]
 struct Run<'a> {
     command: Command,
-    language: Language,
+    asked: AskedLanguage,
     file: &'a [u8],
     second: &'a [u8],
     reader: FailurePlan,
@@ -63,14 +74,14 @@ impl<'a> Run<'a> {
     /// A run whose readers give so many bytes in a call, all of them where it isn't said.
     fn new(
         command: Command,
-        language: Language,
+        asked: AskedLanguage,
         file: &'a [u8],
         second: &'a [u8],
         per_call: &str,
     ) -> Run<'a> {
         Run {
             command,
-            language,
+            asked,
             file,
             second,
             reader: plan(per_call),
@@ -96,7 +107,7 @@ fn answered_by<W: Sink>(
     run(
         alloc,
         given.command,
-        choice(given.language),
+        given.asked,
         RULES.as_slice(),
         rules,
         &mut file,
@@ -139,7 +150,7 @@ pub(crate) fn push_run(
 ) -> Result<(), AllocError> {
     let given = Run {
         command: command(row.text(1)),
-        language: row.language(),
+        asked: asked(row),
         file: bytes,
         second: row.text(5).as_bytes(),
         reader: plan(row.text(3)),
@@ -224,7 +235,7 @@ pub(crate) fn push_alone(
     out: &mut String,
 ) -> Result<(), AllocError> {
     let file = row.text(1).as_bytes();
-    let mut run = Run::new(command, row.language(), file, b"", "");
+    let mut run = Run::new(command, asked(row), file, b"", "");
     run.room = MAX_BYTES;
     push_both(alloc, run, out)
 }
@@ -232,7 +243,7 @@ pub(crate) fn push_alone(
 /// What a command, by its word, answers for a text and the text of its second file.
 pub(crate) fn push_command(alloc: Global, row: &Case, out: &mut String) -> Result<(), AllocError> {
     let (file, second) = (row.text(1).as_bytes(), row.text(2).as_bytes());
-    let run = Run::new(command(row.text(0)), row.language(), file, second, "");
+    let run = Run::new(command(row.text(0)), asked(row), file, second, "");
     push_both(alloc, run, out)
 }
 
@@ -247,7 +258,7 @@ pub(crate) fn push_with_tenth(
         "spans by ten" => Command::Check(ReportForm::Spans),
         _ => CHECK,
     };
-    let mut run = Run::new(command, row.language(), file, second, "");
+    let mut run = Run::new(command, asked(row), file, second, "");
     run.has_tenth = true;
     push_both(alloc, run, out)
 }
@@ -259,7 +270,7 @@ pub(crate) fn push_second_bytes(
     out: &mut String,
 ) -> Result<(), AllocError> {
     let second = bytes_of(alloc, row.text(2))?;
-    let run = Run::new(CHECK, row.language(), row.text(1).as_bytes(), &second, "");
+    let run = Run::new(CHECK, asked(row), row.text(1).as_bytes(), &second, "");
     push_both(alloc, run, out)
 }
 
@@ -271,7 +282,7 @@ pub(crate) fn is_written(
     text: &str,
 ) -> Result<bool, AllocError> {
     let file = row.text(1).as_bytes();
-    let given = Run::new(command, row.language(), file, b"", "1");
+    let given = Run::new(command, asked(row), file, b"", "1");
     let mut writer = MemorySink::new(alloc, text.len(), plan("1"))?;
     let answered = answered(alloc, given, &mut writer)?;
     unless_refused(&answered, writer.bytes().len())?;
@@ -281,7 +292,7 @@ pub(crate) fn is_written(
 /// How many bytes a command writes for a text and that of its second file, and whether no piece of it has more than 4,096.
 pub(crate) fn push_gauged(alloc: Global, row: &Case, out: &mut String) -> Result<(), AllocError> {
     let (file, second) = (row.text(2).as_bytes(), row.text(3).as_bytes());
-    let given = Run::new(command(row.text(1)), row.language(), file, second, "");
+    let given = Run::new(command(row.text(1)), asked(row), file, second, "");
     let mut writer = Gauge::new();
     let answered = answered(alloc, given, &mut writer)?;
     unless_refused(&answered, writer.bytes)?;
@@ -315,8 +326,8 @@ fn fault_mark(fault: Fault, bytes: &[u8]) -> char {
 }
 
 /// The mark of bytes; `?` where a second run answers or writes something else.
-fn mark_of(alloc: Global, language: Language, bytes: &[u8]) -> Result<char, AllocError> {
-    let given = Run::new(Command::Fix, language, bytes, b"", "");
+fn mark_of(alloc: Global, asked: AskedLanguage, bytes: &[u8]) -> Result<char, AllocError> {
+    let given = Run::new(Command::Fix, asked, bytes, b"", "");
     let mut writer = MemorySink::new(alloc, ROOM, plan(""))?;
     let mut second_writer = MemorySink::new(alloc, ROOM, plan(""))?;
     let first = answered(alloc, given, &mut writer)?;
@@ -338,7 +349,7 @@ pub(crate) fn push_beginnings(
     let text = row.text(1);
     for end in 0..text.len().saturating_add(1) {
         let beginning = text.as_bytes().get(..end).unwrap_or(b"");
-        out.push(mark_of(alloc, row.language(), beginning)?)?;
+        out.push(mark_of(alloc, asked(row), beginning)?)?;
     }
     Ok(())
 }

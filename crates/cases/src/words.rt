@@ -6,7 +6,7 @@ use crate::kinds::kind;
 use crate::ranks::rank;
 use clap::error::ErrorKind;
 use command_line::{Line, ReadFailure, command_line, explain_unread, write_escaped};
-use commands::LanguageChoice;
+use commands::{AskedLanguage, LanguageChoice};
 use early_errors::{EarlyError, number_of};
 use grammar::{
     accepts_rank, is_assignment, is_literal, is_prefix_operator, is_reserved, is_update_operator,
@@ -82,8 +82,9 @@ fn push_mistake(kind: ErrorKind, out: &mut String) -> Result<(), AllocError> {
 /// The language that a line asks for, where it says something of it.
 fn push_language(line: Line, out: &mut String) -> Result<(), AllocError> {
     match line.language() {
-        Ok(LanguageChoice::Unsaid) => Ok(()),
-        Ok(choice) => write!(out, " {choice:?}"),
+        Ok(AskedLanguage::Said(LanguageChoice::Unsaid)) => Ok(()),
+        Ok(AskedLanguage::Said(choice)) => write!(out, " {choice:?}"),
+        Ok(AskedLanguage::Any) => out.push_str(" Any"),
         Err(mistake) => write!(out, " wrong {mistake:?}"),
     }
 }

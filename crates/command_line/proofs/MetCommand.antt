@@ -14,7 +14,7 @@ use Rattle.clap.specs.declared.error.kind.ErrorKind.{ErrorKind}
 use Rattle.clap.specs.declared.error.kind.ErrorKind.TheVariants.{DisplayHelp, InvalidSubcommand}
 use Rattle.commands.specs.Commands.{default_format, word_of}
 use Rattle.commands.specs.declared.command.Command.{Command}
-use Rattle.commands.specs.declared.command.Command.TheVariants.{Check, Tree, Fix, Unwrap, Format, Cost, Verify, Same}
+use Rattle.commands.specs.declared.command.Command.TheVariants.{Check, Tree, Fix, Unwrap, Mend, Format, Cost, Verify, Same}
 use Rattle.commands.specs.declared.command.ReportForm.TheVariants.{Places}
 use Rattle.command_line.specs.CommandLine.{HasFiles, MeetsCommand, command_app, jslint_app}
 use Rattle.command_line.proofs.GivenValues.{is_unflagged, value_of_given}
@@ -240,6 +240,7 @@ all_serve =
     let tree : one_file Tree = λ words. value_of_wanted file (leaf Tree) words refl refl refl in
     let fix : one_file Fix = λ words. value_of_wanted file (leaf Fix) words refl refl refl in
     let unwrap : one_file Unwrap = λ words. value_of_wanted file (leaf Unwrap) words refl refl refl in
+    let mend : one_file Mend = λ words. value_of_wanted file (leaf Mend) words refl refl refl in
     let format : one_file (Format default_format) = λ words. value_of_wanted file (leaf (Format default_format)) words refl refl refl in
     let cost : one_file Cost = λ words. value_of_wanted file (leaf Cost) words refl refl refl in
     let verify : one_file Verify = λ words. value_of_wanted file (leaf Verify) words refl refl refl in
@@ -254,12 +255,15 @@ all_serve =
           (
             serves Unwrap (leaf Unwrap) refl unwrap,
             (
-              serves (Format default_format) (leaf (Format default_format)) refl format,
+              serves Mend (leaf Mend) refl mend,
               (
-                serves Cost (leaf Cost) refl cost,
+                serves (Format default_format) (leaf (Format default_format)) refl format,
                 (
-                  serves Verify (leaf Verify) refl (λ words e. (verify words e, table words e)),
-                  (serves Same (leaf Same) refl (λ words e. (same words e, other words e)), (serves_help (built_leaf help_shape) refl refl, tt)),
+                  serves Cost (leaf Cost) refl cost,
+                  (
+                    serves Verify (leaf Verify) refl (λ words e. (verify words e, table words e)),
+                    (serves Same (leaf Same) refl (λ words e. (same words e, other words e)), (serves_help (built_leaf help_shape) refl refl, tt)),
+                  ),
                 ),
               ),
             ),

@@ -1,6 +1,8 @@
 -- The language that the words of the command line ask for, and the commas.
 use Rattle.std.specs.Prelude.{ℕ, Bool, true, false, cond, List, Option, Some, None, Result, Ok, Err, codes, unwrap_or}
 use Rattle.std.specs.Str.{bytes_eq}
+use Rattle.commands.specs.declared.asked_language.AskedLanguage.{AskedLanguage}
+use Rattle.commands.specs.declared.asked_language.AskedLanguage.TheVariants.{Said, Any}
 use Rattle.commands.specs.declared.command.CommaChoice.{CommaChoice}
 use Rattle.commands.specs.declared.command.CommaChoice.TheVariants.{Nowhere, Lists, Everywhere}
 use Rattle.commands.specs.declared.language_choice.LanguageChoice.{LanguageChoice}
@@ -40,20 +42,36 @@ language_by None is_module = Err mistake.Edition
 language_by (Some edition) false = Ok edition
 language_by (Some edition) true = module_of edition
 
--- the language that both ask for, or why they ask for none
+-- what both say, or why they say nothing
 abbrev pub language_of : Option (List ℕ) → Bool → Result LanguageChoice OptionMistake
 language_of edition is_module = language_by (edition_of edition) is_module
 
-abbrev pub language_beside : Option CommaChoice → Result LanguageChoice OptionMistake → Result LanguageChoice OptionMistake
+-- what `--any` says beside them: that each language is tried, so none may be said
+abbrev pub any_beside : Option (List ℕ) → Bool → Result AskedLanguage OptionMistake
+any_beside None false = Ok Any
+any_beside None true = Err mistake.Any
+any_beside (Some edition) is_module = Err mistake.Any
+
+abbrev pub said_by : Result LanguageChoice OptionMistake → Result AskedLanguage OptionMistake
+said_by (Ok choice) = Ok (Said choice)
+said_by (Err mistake) = Err mistake
+
+-- the language that the three ask for, or why they ask for none
+abbrev pub asked_by : Option (List ℕ) → (is_module is_any : Bool) → Result AskedLanguage OptionMistake
+asked_by edition is_module true = any_beside edition is_module
+asked_by edition is_module false = said_by (language_of edition is_module)
+
+abbrev pub language_beside : Option CommaChoice → Result AskedLanguage OptionMistake → Result AskedLanguage OptionMistake
 language_beside None language = Err mistake.Commas
 language_beside (Some commas) language = language
 
 -- the language that the options of a line ask for, where all of them ask for something
-abbrev pub asked_of : (commas edition : Option (List ℕ)) → Bool → Result LanguageChoice OptionMistake
-asked_of commas edition is_module = language_beside (commas_of commas) (language_of edition is_module)
+abbrev pub asked_of : (commas edition : Option (List ℕ)) → (is_module is_any : Bool) → Result AskedLanguage OptionMistake
+asked_of commas edition is_module is_any = language_beside (commas_of commas) (asked_by edition is_module is_any)
 
 -- the line for words that ask for none, with its line feed
 abbrev pub mistake_line : OptionMistake → List ℕ
 mistake_line mistake.Edition = codes "jslint: --edition is 2020 or 2022\n"
 mistake_line mistake.Module = codes "jslint: --module doesn't go with --edition 2020\n"
+mistake_line mistake.Any = codes "jslint: --any doesn't go with --edition or --module\n"
 mistake_line mistake.Commas = codes "jslint: --commas is none, lists or all\n"

@@ -13,7 +13,7 @@ use Rattle.clap.specs.declared.error.kind.ErrorKind.{ErrorKind}
 use Rattle.clap.specs.declared.error.kind.ErrorKind.TheVariants.{DisplayHelp, DisplayVersion}
 use Rattle.commands.specs.Commands.{default_format, word_of}
 use Rattle.commands.specs.declared.command.Command.{Command}
-use Rattle.commands.specs.declared.command.Command.TheVariants.{Check, Tree, Fix, Unwrap, Format, Cost, Verify, Same}
+use Rattle.commands.specs.declared.command.Command.TheVariants.{Check, Tree, Fix, Unwrap, Mend, Format, Cost, Verify, Same}
 use Rattle.commands.specs.declared.command.FormatChoice.{FormatChoice}
 use Rattle.commands.specs.declared.command.ReportForm.{ReportForm}
 use Rattle.commands.specs.declared.command.ReportForm.TheVariants.{Places, Spans}
@@ -44,6 +44,10 @@ edition_rule = record (new_rule (codes "edition")) { long = Some (codes "edition
 abbrev pub module_rule : Rule
 module_rule = record (new_rule (codes "module")) { long = Some (codes "module"); action = Some SetTrue }
 
+-- a flag, by its id
+abbrev pub flag_rule : Text → Rule
+flag_rule id = record (new_rule id) { long = Some id; action = Some SetTrue }
+
 -- an option, by its id, with a number in a range
 abbrev pub number_rule : Text → ℕ → ℕ → Rule
 number_rule id least most = record (new_rule id) { long = Some id; value_names = 1; parser = Some (Unsigned least most) }
@@ -52,21 +56,25 @@ number_rule id least most = record (new_rule id) { long = Some id; value_names =
 abbrev pub commas_rule : Rule
 commas_rule = record (new_rule (codes "commas")) { long = Some (codes "commas"); value_names = 1 }
 
--- a flag, by its id
-abbrev pub flag_rule : Text → Rule
-flag_rule id = record (new_rule id) { long = Some id; action = Some SetTrue }
-
 -- a command, by its word, with its FILE alone
 abbrev pub lone_file_app : Text → App
 lone_file_app word = with_rule (new_app word) (required_rule (codes "file"))
 
+-- and with the words that say one language
+abbrev pub said_app : Text → App
+said_app word = with_rule (with_rule (lone_file_app word) edition_rule) module_rule
+
 -- and with the language of scripts
 abbrev pub file_app : Text → App
-file_app word = with_rule (with_rule (lone_file_app word) edition_rule) module_rule
+file_app word = with_rule (said_app word) (flag_rule (codes "any"))
+
+-- and with settings
+abbrev pub settled_app : Text → App
+settled_app word = with_rule (file_app word) settings_rule
 
 -- `check` with its settings and the form of its reports
 abbrev pub reporting_app : App
-reporting_app = with_rule (with_rule (file_app (codes "check")) settings_rule) spans_rule
+reporting_app = with_rule (settled_app (codes "check")) spans_rule
 
 -- `format` with the measures of its lines
 abbrev pub measured_app : App
@@ -79,6 +87,7 @@ punctuated_app = with_rule (with_rule (with_rule measured_app (flag_rule (codes 
 -- a command with its arguments
 abbrev pub command_app : Command → App
 command_app (Check form) = with_rule reporting_app list_rule
+command_app Mend = settled_app (word_of Mend)
 command_app (Format choice) = with_rule (with_rule punctuated_app (flag_rule (codes "fewest"))) (flag_rule (codes "check"))
 command_app Verify = with_rule (file_app (word_of Verify)) (required_rule (codes "table"))
 command_app Same = with_rule (file_app (word_of Same)) (required_rule (codes "other"))
@@ -94,17 +103,18 @@ bare_app = on_top (λ s. record s { has_version = true; subcommand_required = tr
 -- with its commands
 abbrev pub jslint_app : App
 jslint_app =
-    with_command (with_command (with_command (with_command (with_command (with_command (with_command (with_command bare_app (Check Places)) Tree) Fix) Unwrap)
-    (Format default_format)) Cost) Verify) Same
+    with_command (with_command (with_command (with_command (with_command (with_command (with_command (with_command (with_command bare_app (Check Places)) Tree) Fix) Unwrap)
+    Mend) (Format default_format)) Cost) Verify) Same
 
 -- a command line that reads these words as the whole one does
 abbrev pub ReadsAlike : App → List Text → Type 0
 ReadsAlike app words = (is_simple_and_free app ≡ true) × (fault_of app words ≡ fault_of jslint_app words) × (takes app words ≡ takes jslint_app words)
     × (subcommand_of app words ≡ subcommand_of jslint_app words)
 
--- the second file of a command by what its words matched: `check` has one where settings are named, `verify` and `same` always, no other has one
+-- the second file of a command by what its words matched: `check` and `mend` have one where settings are named, `verify` and `same` always, no other has one
 abbrev pub HasSecond : Command → List Row → Option Text → Type 0
 HasSecond (Check form) rows second = second ≡ first_of (codes "settings") rows
+HasSecond Mend rows second = second ≡ first_of (codes "settings") rows
 HasSecond Verify rows second = (second ≡ first_of (codes "table") rows) × (is_some second ≡ true)
 HasSecond Same rows second = (second ≡ first_of (codes "other") rows) × (is_some second ≡ true)
 HasSecond other rows second = second ≡ None
@@ -139,15 +149,16 @@ HasForm (Check form) rows = form ≡ form_of rows
 HasForm (Format choice) rows = choice ≡ format_of rows
 HasForm other rows = Unit {0}
 
--- what the words say of the language of scripts: an edition, and whether they are modules
-abbrev pub HasLanguage : List Row → Option Text → Bool → Type 0
-HasLanguage rows edition is_module = (edition ≡ first_of (codes "edition") rows) × (is_module ≡ is_set (codes "module") rows)
+-- what the words say of the language of scripts: an edition, whether they are modules, and whether each language is tried
+abbrev pub HasLanguage : List Row → Option Text → (is_module is_any : Bool) → Type 0
+HasLanguage rows edition is_module is_any =
+    (edition ≡ first_of (codes "edition") rows) × (is_module ≡ is_set (codes "module") rows) × (is_any ≡ is_set (codes "any") rows)
 
 -- the subcommand that was met is the line's command, in the form that was asked for, the line's files are the first values of its arguments, and so is
 -- what it says of the language, and of commas, which `format` alone knows; FILE is a list of names where `--list` was given, which `check` alone knows
 abbrev pub Chooses : Option (Text × List Row) → Line → Type 0
 Chooses met line = (rows : List Row) × (met ≡ Some (word_of line.command, rows)) × (first_of (codes "file") rows ≡ Some line.file.now)
-    × HasSecond line.command rows (option_map (λ s. s.now) line.second) × HasForm line.command rows × HasLanguage rows (option_map (λ s. s.now) line.edition) line.is_module
+    × HasSecond line.command rows (option_map (λ s. s.now) line.second) × HasForm line.command rows × HasLanguage rows (option_map (λ s. s.now) line.edition) line.is_module line.is_any
     × (line.is_list ≡ is_set (codes "list") rows) × (option_map (λ s. s.now) line.commas ≡ first_of (codes "commas") rows)
 
 -- the command that a word gives before its flags are looked at

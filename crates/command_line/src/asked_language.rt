@@ -2,10 +2,10 @@
 
 ghost use Rattle.std.specs.Prelude.{◌≡◌, false, option_map};
 ghost use Rattle.commands.specs.Refusal.{WritesLine};
-ghost use Rattle.command_line.specs.AskedLanguage.{commas_named, commas_of, commas_or_all, edition_named, edition_of, language_of, mistake_line, module_of};
+ghost use Rattle.command_line.specs.AskedLanguage.{any_beside, asked_by, commas_named, commas_of, commas_or_all, edition_named, edition_of, language_of, mistake_line, module_of};
 
 use crate::line::Line;
-use commands::{CommaChoice, LanguageChoice};
+use commands::{AskedLanguage, CommaChoice, LanguageChoice};
 use source_text::{Sink, write_text};
 
 /// Why the options of a line can't be taken.
@@ -15,6 +15,8 @@ pub enum OptionMistake {
     Edition,
     /// `--module` stands beside `--edition 2020`, in which there are no modules.
     Module,
+    /// `--any` stands beside `--edition` or `--module`, which say one language.
+    Any,
     /// Behind `--commas` stands neither none, lists nor all.
     Commas,
 }
@@ -82,7 +84,7 @@ fn module_of(edition: LanguageChoice) -> Result<LanguageChoice, OptionMistake>
     }
 }
 
-/// The language that a line asks for.
+/// What `--edition` and `--module` say of the language.
 fn language_of(edition: Option<&str>, is_module: bool) -> Result<LanguageChoice, OptionMistake>
     ensures { result ≡ language_of (option_map (λ name. name.now) edition.entry) is_module }
 {
@@ -95,6 +97,33 @@ fn language_of(edition: Option<&str>, is_module: bool) -> Result<LanguageChoice,
     Ok(edition)
 }
 
+/// That each language is tried, where none is said.
+fn any_beside(edition: Option<&str>, is_module: bool) -> Result<AskedLanguage, OptionMistake>
+    ensures { result ≡ any_beside (option_map (λ name. name.now) edition.entry) is_module }
+{
+    match (edition, is_module) {
+        (None, false) => Ok(AskedLanguage::Any),
+        (None, true) | (Some(_), _) => Err(OptionMistake::Any),
+    }
+}
+
+/// The language that a line asks for.
+fn asked_by(
+    edition: Option<&str>,
+    is_module: bool,
+    is_any: bool,
+) -> Result<AskedLanguage, OptionMistake>
+    ensures { result ≡ asked_by (option_map (λ name. name.now) edition.entry) is_module is_any }
+{
+    if is_any {
+        return any_beside(edition, is_module);
+    }
+    match language_of(edition, is_module) {
+        Ok(choice) => Ok(AskedLanguage::Said(choice)),
+        Err(mistake) => Err(mistake),
+    }
+}
+
 impl<'a> Line<'a> {
     ghost use Rattle.std.specs.Prelude.{◌≡◌, option_map};
     ghost use Rattle.command_line.specs.AskedLanguage.{asked_of};
@@ -103,12 +132,13 @@ impl<'a> Line<'a> {
     ///
     /// # Errors
     ///
-    /// An `OptionMistake` where the word behind `--commas` is none of its three, or those behind `--edition` and `--module` name no language.
-    pub fn language(self) -> Result<LanguageChoice, OptionMistake>
-        ensures { result ≡ asked_of (option_map (λ name. name.now) self.entry.commas) (option_map (λ name. name.now) self.entry.edition) self.entry.is_module }
+    /// An `OptionMistake` where the word behind `--commas` is none of its three, where `--edition` and `--module` name no language, or where one of
+    /// these stands beside `--any`.
+    pub fn language(self) -> Result<AskedLanguage, OptionMistake>
+        ensures { result ≡ asked_of (option_map (λ name. name.now) self.entry.commas) (option_map (λ name. name.now) self.entry.edition) self.entry.is_module self.entry.is_any }
     {
         match commas_of(self.commas) {
-            Some(_) => language_of(self.edition, self.is_module),
+            Some(_) => asked_by(self.edition, self.is_module, self.is_any),
             None => Err(OptionMistake::Commas),
         }
     }
@@ -121,6 +151,7 @@ fn mistake_line(mistake: OptionMistake) -> &'static str
     match mistake {
         OptionMistake::Edition => "jslint: --edition is 2020 or 2022\n",
         OptionMistake::Module => "jslint: --module doesn't go with --edition 2020\n",
+        OptionMistake::Any => "jslint: --any doesn't go with --edition or --module\n",
         OptionMistake::Commas => "jslint: --commas is none, lists or all\n",
     }
 }

@@ -1,7 +1,7 @@
 //! What help and the version say.
 
 /// The version, and the toolchain that proves it (`rt version`).
-pub const VERSION: &str = "2.8.0 (proved with rattle-kit-13)";
+pub const VERSION: &str = "2.9.0 (proved with rattle-kit-13)";
 
 /// What the help says of the program.
 pub const ABOUT: &str =
@@ -25,6 +25,14 @@ pub const UNWRAP: &str = "Write the script as it stands, but without its unneces
 /// What stands below the help of `unwrap`.
 pub const UNWRAP_NOTE: &str =
     "Comments stay, and so do blanks and lines where no parenthesis goes.";
+
+/// What the help says of `mend`.
+pub const MEND: &str = "Write the script with the safe changes for what the rules find";
+
+/// What stands below the help of `mend`.
+pub const MEND_NOTE: &str = "\
+What `check` reports under the same settings is changed where a rule has a safe
+change; all else stays, comments and layout too.";
 
 /// What the help says of `format`.
 pub const FORMAT: &str = "Write the script in lines of a width, with its comments";
@@ -51,6 +59,9 @@ pub const EDITION: &str = "2020, the base profile, or 2022: strict scripts of EC
 
 /// What the help says of `--module`.
 pub const MODULE: &str = "Modules of ECMAScript 2022";
+
+/// What the help says of `--any`.
+pub const ANY: &str = "The first that takes the script: base profile, 2022, modules";
 
 /// What the help says of `--settings`.
 pub const SETTINGS: &str = "Rules and options, as TOML; without it nine rules are on";
@@ -100,16 +111,18 @@ Examples:
   jslint tree app.js
   jslint fix app.js > fixed.js
   jslint unwrap app.js > clean.js
+  jslint mend app.js --settings jslint.toml > mended.js
   jslint format app.js > pretty.js
   jslint format app.js --check --width 100
   jslint cost app.js > app.cost
   jslint verify app.js app.cost
   jslint same app.js clean.js
   jslint check app.mjs --module
+  jslint check app.js --any
   jslint check -- -h.js
   git show HEAD:app.js | jslint check -
 
-`fix` drops comments, `unwrap` and `format` keep them.
+`fix` drops comments, `unwrap`, `mend` and `format` keep them.
 
 A name that may begin with `-` goes after `--`, or it is read as an option:
 `jslint check -- FILE`, `jslint check --settings=FILE -- FILE`.

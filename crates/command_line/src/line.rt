@@ -4,9 +4,9 @@ ghost use Rattle.std.specs.Prelude.{◌≡◌, IfErr, IfOk, IfSome, IsOkAnd, Som
 ghost use Rattle.clap.specs.Words.{FailsBy, app_of, fault_of, first_of, kind_of, rows_of, found_of, rule_of, subcommand_of, subcommand_rows_of, takes, with_subcommand};
 ghost use Rattle.clap.specs.declared.builder.command.Command.TheViews.{out-Command};
 ghost use Rattle.commands.specs.Commands.{default_format, word_of};
-ghost use Rattle.commands.specs.declared.command.Command.TheVariants.{Check, Format, Same, Verify};
+ghost use Rattle.commands.specs.declared.command.Command.TheVariants.{Check, Format, Mend, Same, Verify};
 ghost use Rattle.commands.specs.declared.command.ReportForm.TheVariants.{Places};
-ghost use Rattle.command_line.specs.CommandLine.{Chooses, MeetsCommand, ReadsAlike, bare_app, command_app, file_app, flag_rule, form_of, format_of, is_set, jslint_app, lone_file_app, measured_app, number_of, number_rule, plain, punctuated_app, reporting_app};
+ghost use Rattle.command_line.specs.CommandLine.{Chooses, MeetsCommand, ReadsAlike, bare_app, command_app, file_app, flag_rule, form_of, format_of, is_set, jslint_app, lone_file_app, measured_app, number_of, number_rule, plain, punctuated_app, reporting_app, said_app, settings_rule};
 ghost use Rattle.command_line.specs.AskedLanguage.{commas_or_all};
 
 use crate::asked_language::commas_or_all;
@@ -23,13 +23,15 @@ pub struct Line<'a> {
     pub command: Command,
     /// The script.
     pub file: &'a str,
-    /// The settings of `check`, where they are given, the table of `verify`, and the other script of `same`. No other command has a second
-    /// file.
+    /// The settings of `check` and `mend`, where they are given, the table of `verify`, and the other script of `same`. No other command has a
+    /// second file.
     pub second: Option<&'a str>,
     /// What stands behind `--edition`, where it is given.
     pub edition: Option<&'a str>,
     /// Whether `--module` is given.
     pub is_module: bool,
+    /// Whether `--any` is given.
+    pub is_any: bool,
     /// Whether `--list` is given: then the file is a list of names. Only `check` has it.
     pub is_list: bool,
     /// What stands behind `--commas`, where it is given. Only `format` has it.
@@ -52,13 +54,13 @@ fn lone_file_command<'a>(
     clap::Command::new(alloc, word).about(about).arg(file)
 }
 
-/// A command by its word, with its FILE and the language of scripts.
-fn file_command<'a>(
+/// A command by its word, with its FILE, and with the words that say one language.
+fn said_command<'a>(
     alloc: Global,
     word: &'a str,
     about: &'a str,
 ) -> Result<clap::Command<'a>, AllocError>
-    ensures shape { IfOk result (λ c. app_of c ≡ file_app word.now) }
+    ensures shape { IfOk result (λ c. app_of c ≡ said_app word.now) }
     ensures local { IfOk result (λ c. (out-Command c).has_globals ≡ false) }
 {
     let edition = Arg::new(alloc, "edition")
@@ -72,6 +74,19 @@ fn file_command<'a>(
     lone_file_command(alloc, word, about)?
         .arg(edition)?
         .arg(module)
+}
+
+/// A command by its word, with its FILE and the language of scripts.
+fn file_command<'a>(
+    alloc: Global,
+    word: &'a str,
+    about: &'a str,
+) -> Result<clap::Command<'a>, AllocError>
+    ensures shape { IfOk result (λ c. app_of c ≡ file_app word.now) }
+    ensures local { IfOk result (λ c. (out-Command c).has_globals ≡ false) }
+{
+    let any = flag(alloc, "any", help::ANY);
+    said_command(alloc, word, about)?.arg(any)
 }
 
 /// A command by its word, with its FILE, and a note below its help.
@@ -90,21 +105,28 @@ fn noted_command<'a>(
     }
 }
 
+/// The option that names settings.
+fn settings_option<'a>(alloc: Global) -> Arg<'a>
+    ensures rule { rule_of result ≡ settings_rule }
+    ensures local { result.global ≡ false }
+{
+    Arg::new(alloc, "settings")
+        .long("settings")
+        .value_name("FILE")
+        .help(help::SETTINGS)
+}
+
 /// `check`, with its settings and the form of its reports.
 fn reporting_command<'a>(alloc: Global) -> Result<clap::Command<'a>, AllocError>
     ensures shape { IfOk result (λ c. app_of c ≡ reporting_app) }
     ensures local { IfOk result (λ c. (out-Command c).has_globals ≡ false) }
 {
-    let settings = Arg::new(alloc, "settings")
-        .long("settings")
-        .value_name("FILE")
-        .help(help::SETTINGS);
     let spans = Arg::new(alloc, "spans")
         .long("spans")
         .action(ArgAction::SetTrue)
         .help(help::SPANS);
     file_command(alloc, "check", help::CHECK)?
-        .arg(settings)?
+        .arg(settings_option(alloc))?
         .arg(spans)
 }
 
@@ -118,6 +140,14 @@ fn check_command<'a>(alloc: Global) -> Result<clap::Command<'a>, AllocError>
         .action(ArgAction::SetTrue)
         .help(help::LIST);
     reporting_command(alloc)?.arg(list)
+}
+
+/// `mend`, with its settings.
+fn mend_command<'a>(alloc: Global) -> Result<clap::Command<'a>, AllocError>
+    ensures shape { IfOk result (λ c. app_of c ≡ command_app Mend) }
+    ensures local { IfOk result (λ c. (out-Command c).has_globals ≡ false) }
+{
+    noted_command(alloc, "mend", help::MEND, help::MEND_NOTE)?.arg(settings_option(alloc))
 }
 
 /// An option with a number in a range.
@@ -244,6 +274,7 @@ fn command_of_jslint<'a>(alloc: Global, command: Command) -> Result<clap::Comman
         Command::Tree => file_command(alloc, "tree", help::TREE),
         Command::Fix => noted_command(alloc, "fix", help::FIX, help::FIX_NOTE),
         Command::Unwrap => noted_command(alloc, "unwrap", help::UNWRAP, help::UNWRAP_NOTE),
+        Command::Mend => mend_command(alloc),
         Command::Format(_) => format_command(alloc),
         Command::Cost => file_command(alloc, "cost", help::COST),
         Command::Verify => verify_command(alloc),
@@ -262,6 +293,7 @@ pub(crate) fn jslint_command<'a>(alloc: Global) -> Result<clap::Command<'a>, All
     let jslint = with_command(jslint, command_of_jslint(alloc, Command::Tree))?;
     let jslint = with_command(jslint, command_of_jslint(alloc, Command::Fix))?;
     let jslint = with_command(jslint, command_of_jslint(alloc, Command::Unwrap))?;
+    let jslint = with_command(jslint, command_of_jslint(alloc, Command::Mend))?;
     let jslint = with_command(
         jslint,
         command_of_jslint(alloc, Command::Format(FormatChoice::DEFAULT)),
@@ -356,6 +388,7 @@ fn line_of<'a>(matches: &ArgMatches<'a>) -> Line<'a>
     let file = met.get_str("file").unwrap();
     let (command, second) = match plain {
         Command::Check(_) => (Command::Check(form_met(met)), met.get_str("settings")),
+        Command::Mend => (plain, met.get_str("settings")),
         Command::Verify => (plain, met.get_str("table")),
         Command::Same => (plain, met.get_str("other")),
         Command::Format(_) => (Command::Format(format_met(met)), None),
@@ -363,6 +396,7 @@ fn line_of<'a>(matches: &ArgMatches<'a>) -> Line<'a>
     };
     let edition = met.get_str("edition");
     let is_module = is_set(met, "module");
+    let is_any = is_set(met, "any");
     let is_list = is_set(met, "list");
     let commas = met.get_str("commas");
     Line {
@@ -371,6 +405,7 @@ fn line_of<'a>(matches: &ArgMatches<'a>) -> Line<'a>
         second,
         edition,
         is_module,
+        is_any,
         is_list,
         commas,
     }

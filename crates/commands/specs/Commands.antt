@@ -1,7 +1,7 @@
 -- The commands of the program.
 use Rattle.std.specs.Prelude.{ℕ, List, codes, false}
 use Rattle.commands.specs.declared.command.Command.{Command}
-use Rattle.commands.specs.declared.command.Command.TheVariants.{Check, Tree, Fix, Unwrap, Format, Cost, Verify, Same}
+use Rattle.commands.specs.declared.command.Command.TheVariants.{Check, Tree, Fix, Unwrap, Mend, Format, Cost, Verify, Same}
 use Rattle.commands.specs.declared.command.CommaChoice.TheVariants.{Everywhere}
 use Rattle.commands.specs.declared.command.FormatChoice.{FormatChoice}
 
@@ -11,6 +11,7 @@ word_of (Check form) = codes "check"
 word_of Tree = codes "tree"
 word_of Fix = codes "fix"
 word_of Unwrap = codes "unwrap"
+word_of Mend = codes "mend"
 word_of (Format choice) = codes "format"
 word_of Cost = codes "cost"
 word_of Verify = codes "verify"

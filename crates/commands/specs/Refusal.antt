@@ -8,7 +8,7 @@ use Rattle.source_text.specs.declared.fault.Reason.{Reason}
 use Rattle.source_text.specs.declared.fault.Reason.TheVariants as reason
 use Rattle.source_text.specs.Writing.{AppendsBeginning}
 use Rattle.commands.specs.declared.hint.Hint.{Hint}
-use Rattle.commands.specs.declared.hint.Hint.TheVariants.{Nothing, Edition2022, Module, Unknown}
+use Rattle.commands.specs.declared.hint.Hint.TheVariants.{Nothing, Edition2022, Module, Unknown, InBase, InScript, InModule}
 use Rattle.commands.specs.declared.refused.Refused.{Refused}
 
 -- 1 for a bad cost table, else 2
@@ -53,12 +53,16 @@ abbrev pub script_words : Bool → List ℕ
 script_words true = codes "second file: "
 script_words false = []
 
--- what to say on the command line for a later language, as a guess; nothing where none is known to take the text
+-- what to say on the command line for a later language, as a guess; nothing where none is known to take the text; or the language of the refusal, where
+-- each was tried
 abbrev pub hint_words : Hint → List ℕ
 hint_words Nothing = []
 hint_words Edition2022 = codes " (perhaps: --edition 2022)"
 hint_words Module = codes " (perhaps: --module)"
 hint_words Unknown = []
+hint_words InBase = codes " (in the base profile)"
+hint_words InScript = codes " (as a script of 2022)"
+hint_words InModule = codes " (as a module)"
 
 abbrev pub refusal_words : Refused → List ℕ
 refusal_words refused = script_words refused.in_second ++ fault_words refused.fault refused.line refused.column ++ hint_words refused.hint

@@ -65,6 +65,8 @@ pub enum Command {
     Fix,
     /// Write the script as it is, without its unnecessary parentheses.
     Unwrap,
+    /// Write the script as it is, but with the safe changes for what the rules find in it.
+    Mend,
     /// Write the script in lines of a width, with its comments, in this way.
     Format(FormatChoice),
     /// Write the cost table of the script.
@@ -77,11 +79,12 @@ pub enum Command {
 
 impl Command {
     /// One of each word: `check` with places, `format` as a call gets it that says nothing more.
-    pub const ALL: [Command; 8] = [
+    pub const ALL: [Command; 9] = [
         Command::Check(ReportForm::Places),
         Command::Tree,
         Command::Fix,
         Command::Unwrap,
+        Command::Mend,
         Command::Format(FormatChoice::DEFAULT),
         Command::Cost,
         Command::Verify,
@@ -97,6 +100,7 @@ impl Command {
             Command::Tree => "tree",
             Command::Fix => "fix",
             Command::Unwrap => "unwrap",
+            Command::Mend => "mend",
             Command::Format(_) => "format",
             Command::Cost => "cost",
             Command::Verify => "verify",

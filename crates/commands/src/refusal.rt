@@ -118,7 +118,7 @@ fn push_words(line: &mut OutputBuffer, refused: &Refused)
     }
 }
 
-/// Adds what to say for the later language that takes the text, where one is known to.
+/// Adds what to say for the later language that takes the text, where one is known to, or the language that refuses it.
 fn push_hint(line: &mut OutputBuffer, hint: Hint)
     requires start { length line.old ≤ 108 }
     ensures words { line.new ≡ line.old ++ hint_words hint }
@@ -127,6 +127,9 @@ fn push_hint(line: &mut OutputBuffer, hint: Hint)
     match hint {
         Hint::Edition2022 => line.push_text(" (perhaps: --edition 2022)"),
         Hint::Module => line.push_text(" (perhaps: --module)"),
+        Hint::InBase => line.push_text(" (in the base profile)"),
+        Hint::InScript => line.push_text(" (as a script of 2022)"),
+        Hint::InModule => line.push_text(" (as a module)"),
         Hint::Nothing | Hint::Unknown => {}
     }
 }

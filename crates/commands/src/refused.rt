@@ -15,7 +15,7 @@ pub struct Refused {
     pub in_second: bool,
     pub line: u32,
     pub column: u32,
-    /// Which later language takes the text.
+    /// Which later language takes the text, or of which one the refusal is.
     pub hint: Hint,
 }
 

@@ -4,7 +4,7 @@ use Rattle.lint.specs.Run.{Seen}
 use Rattle.shipped_rules.specs.ShippedRules.{RunsByRules}
 use Rattle.commands.specs.Refused.{no_memory}
 use Rattle.commands.specs.declared.command.Command.{Command}
-use Rattle.commands.specs.declared.language_choice.LanguageChoice.{LanguageChoice}
+use Rattle.commands.specs.declared.asked_language.AskedLanguage.{AskedLanguage}
 use Rattle.commands.specs.declared.refused.Refused.{Refused}
 use Rattle.embedding.specs.declared.output.Output.{Output}
 
@@ -22,6 +22,6 @@ in_memory text second written = record {
 
 -- The output is all that a run over these texts wrote, and the status is the run's; or a run over them that wrote nothing is refused so; or
 -- memory was refused.
-abbrev pub AnswersBytes : Command → LanguageChoice → (text second : List ℕ) → Result Output Refused → Type 0
-AnswersBytes command choice text second (Ok output) = RunsByRules command choice (in_memory text second output.bytes.items) (Ok output.status)
-AnswersBytes command choice text second (Err refused) = RunsByRules command choice (in_memory text second []) (Err refused) ⊎ (refused ≡ no_memory)
+abbrev pub AnswersBytes : Command → AskedLanguage → (text second : List ℕ) → Result Output Refused → Type 0
+AnswersBytes command asked text second (Ok output) = RunsByRules command asked (in_memory text second output.bytes.items) (Ok output.status)
+AnswersBytes command asked text second (Err refused) = RunsByRules command asked (in_memory text second []) (Err refused) ⊎ (refused ≡ no_memory)

@@ -8,7 +8,7 @@ ghost use Rattle.embedding.specs.Answers.{AnswersBytes};
 
 use crate::bytes_feed::BytesFeed;
 use crate::vec_sink::VecSink;
-use commands::{Command, LanguageChoice, Refused, write_refusal};
+use commands::{AskedLanguage, Command, Refused, write_refusal};
 use shipped_rules::run_with_rules;
 use source_text::{Fault, Sink};
 use std::alloc::{AllocError, Global};
@@ -44,17 +44,17 @@ fn refusal_in_memory(refused: Refused) -> Refused
 pub fn run_on_bytes(
     alloc: Global,
     command: Command,
-    choice: LanguageChoice,
+    asked: AskedLanguage,
     text: &[u8],
     second: &[u8],
 ) -> Result<Output, Refused>
     ensures told { IfErr result (λ refused. refused.fault ≢ Usage) }
-    ensures answer { AnswersBytes command choice text.now second.now result }
+    ensures answer { AnswersBytes command asked text.now second.now result }
 {
     let mut file = BytesFeed::new(text);
     let mut second = BytesFeed::new(second);
     let mut output = VecSink::new(alloc);
-    match run_with_rules(alloc, command, choice, &mut file, &mut second, &mut output) {
+    match run_with_rules(alloc, command, asked, &mut file, &mut second, &mut output) {
         Ok(status) => Ok(Output {
             bytes: output.into_bytes(),
             status,

@@ -4,9 +4,10 @@ use Rattle.commands.specs.Commands.{default_format}
 use Rattle.commands.specs.Refusal.{refusal_line, status_of}
 use Rattle.commands.specs.Refused.{no_memory}
 use Rattle.commands.specs.declared.command.Command.{Command}
-use Rattle.commands.specs.declared.command.Command.TheVariants.{Check, Tree, Fix, Unwrap, Format, Cost, Verify, Same}
+use Rattle.commands.specs.declared.command.Command.TheVariants.{Check, Tree, Fix, Unwrap, Mend, Format, Cost, Verify, Same}
 use Rattle.commands.specs.declared.command.ReportForm.TheVariants.{Places, Spans}
-use Rattle.commands.specs.declared.language_choice.LanguageChoice.{LanguageChoice}
+use Rattle.commands.specs.declared.asked_language.AskedLanguage.{AskedLanguage}
+use Rattle.commands.specs.declared.asked_language.AskedLanguage.TheVariants.{Said, Any}
 use Rattle.commands.specs.declared.language_choice.LanguageChoice.TheVariants.{Unsaid, Edition2020, Edition2022, Module}
 use Rattle.commands.specs.declared.refused.Refused.{Refused}
 use Rattle.embedding.specs.Answers.{AnswersBytes}
@@ -23,23 +24,25 @@ number_of Unwrap = 5
 number_of (Check Spans) = 6
 number_of Same = 7
 number_of (Format choice) = 8
+number_of Mend = 9
 
 -- the command that a number names: `format` as where a call says nothing of it
 abbrev pub Names : ℕ → Option Command → Type 0
 Names number (Some (Format choice)) = (number ≡ 8) × (choice ≡ default_format)
 Names number (Some command) = number ≡ number_of command
-Names number None = 9 ≤ number
+Names number None = 10 ≤ number
 
-abbrev pub choice_number : LanguageChoice → ℕ
-choice_number Unsaid = 0
-choice_number Edition2020 = 1
-choice_number Edition2022 = 2
-choice_number Module = 3
+abbrev pub language_number : AskedLanguage → ℕ
+language_number (Said Unsaid) = 0
+language_number (Said Edition2020) = 1
+language_number (Said Edition2022) = 2
+language_number (Said Module) = 3
+language_number Any = 4
 
 -- what a number says of the language
-abbrev pub NamesChoice : ℕ → Option LanguageChoice → Type 0
-NamesChoice number (Some choice) = number ≡ choice_number choice
-NamesChoice number None = 4 ≤ number
+abbrev pub NamesLanguage : ℕ → Option AskedLanguage → Type 0
+NamesLanguage number (Some asked) = number ≡ language_number asked
+NamesLanguage number None = 5 ≤ number
 
 -- the bytes over the front of the room, as far as it goes
 abbrev pub overwritten : List ℕ → List ℕ → List ℕ
@@ -68,17 +71,17 @@ TellsResult (Ok output) room_before room_after outcome = TellsBytes output.bytes
 TellsResult (Err refused) room_before room_after outcome = TellsLine refused room_before room_after outcome
 
 -- what a command answers for these texts in a language is told
-abbrev pub TellsBy : Command → LanguageChoice → (text second room_before room_after : List ℕ) → Outcome → Type 0
-TellsBy command choice text second room_before room_after outcome =
-    (answer : Result Output Refused) × AnswersBytes command choice text second answer × TellsResult answer room_before room_after outcome
+abbrev pub TellsBy : Command → AskedLanguage → (text second room_before room_after : List ℕ) → Outcome → Type 0
+TellsBy command asked text second room_before room_after outcome =
+    (answer : Result Output Refused) × AnswersBytes command asked text second answer × TellsResult answer room_before room_after outcome
 
 -- what a command answers is told; or, where there is no command or no language, nothing
-abbrev pub TellsOf : Option Command → Option LanguageChoice → (text second room_before room_after : List ℕ) → Outcome → Type 0
-TellsOf (Some command) (Some choice) text second room_before room_after outcome = TellsBy command choice text second room_before room_after outcome
-TellsOf command choice text second room_before room_after outcome = (room_after ≡ room_before) × (outcome ≡ record { length = 0; status = 2; is_refusal = 1 })
+abbrev pub TellsOf : Option Command → Option AskedLanguage → (text second room_before room_after : List ℕ) → Outcome → Type 0
+TellsOf (Some command) (Some asked) text second room_before room_after outcome = TellsBy command asked text second room_before room_after outcome
+TellsOf command asked text second room_before room_after outcome = (room_after ≡ room_before) × (outcome ≡ record { length = 0; status = 2; is_refusal = 1 })
 
 -- what a call tells
 abbrev pub Tells : (number language : ℕ) → (text second room_before room_after : List ℕ) → Outcome → Type 0
 Tells number language text second room_before room_after outcome =
-    (command : Option Command) × (choice : Option LanguageChoice) × Names number command × NamesChoice language choice
-    × TellsOf command choice text second room_before room_after outcome
+    (command : Option Command) × (asked : Option AskedLanguage) × Names number command × NamesLanguage language asked
+    × TellsOf command asked text second room_before room_after outcome

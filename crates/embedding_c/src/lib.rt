@@ -6,11 +6,11 @@
 //!   status.
 //! - Begin at: `lib.rt`, `jslint_answer_in`. Definitions: `specs/Calls.antt`.
 
-ghost use Rattle.std.specs.Prelude.{◌≡◌, ◌≢◌, length};
+ghost use Rattle.std.specs.Prelude.{◌≡◌, ◌≢◌, ◌≤◌, ◌<◌, length, Some};
 ghost use Rattle.source_text.specs.declared.fault.Fault.TheVariants.{Usage};
-ghost use Rattle.embedding_c.specs.Calls.{Names, NamesChoice, Tells, TellsBy, TellsRefusal, flag, overwritten};
+ghost use Rattle.embedding_c.specs.Calls.{Names, NamesLanguage, Tells, TellsBy, TellsRefusal, flag, overwritten};
 
-use commands::{Command, FormatChoice, LanguageChoice, Refused, ReportForm, status};
+use commands::{AskedLanguage, Command, FormatChoice, LanguageChoice, Refused, ReportForm, status};
 use embedding::{refusal_text, run_on_bytes};
 use std::alloc::{AllocError, Global};
 
@@ -26,34 +26,55 @@ pub struct Outcome {
     pub is_refusal: u32,
 }
 
-/// The command of a number: 0 `check`, 1 `tree`, 2 `fix`, 3 `cost`, 4 `verify`, 5 `unwrap`, 6 `check --spans`, 7 `same`, 8 `format`, as where
-/// no more is said.
-fn command_of(number: u32) -> Option<Command>
+/// The command of a number below 5: 0 `check`, 1 `tree`, 2 `fix`, 3 `cost`, 4 `verify`.
+fn first_command_of(number: u32) -> Command
+    requires { number < 5 }
+    ensures { Names number (Some result) }
+{
+    match number {
+        0 => Command::Check(ReportForm::Places),
+        1 => Command::Tree,
+        2 => Command::Fix,
+        3 => Command::Cost,
+        _ => Command::Verify,
+    }
+}
+
+/// The command of a number from 5 on: 5 `unwrap`, 6 `check --spans`, 7 `same`, 8 `format`, as where no more is said, 9 `mend`.
+fn later_command_of(number: u32) -> Option<Command>
+    requires { 5 ≤ number }
     ensures { Names number result }
 {
     match number {
-        0 => Some(Command::Check(ReportForm::Places)),
-        1 => Some(Command::Tree),
-        2 => Some(Command::Fix),
-        3 => Some(Command::Cost),
-        4 => Some(Command::Verify),
         5 => Some(Command::Unwrap),
         6 => Some(Command::Check(ReportForm::Spans)),
         7 => Some(Command::Same),
         8 => Some(Command::Format(FormatChoice::DEFAULT)),
+        9 => Some(Command::Mend),
         _ => None,
     }
 }
 
-/// The choice of a number: 0 that nothing is said, 1 the edition of 2020, 2 that of 2022, 3 its modules.
-fn choice_of(number: u32) -> Option<LanguageChoice>
-    ensures { NamesChoice number result }
+/// The command of a number, as `jslint_answer` numbers them.
+fn command_of(number: u32) -> Option<Command>
+    ensures { Names number result }
+{
+    match number < 5 {
+        true => Some(first_command_of(number)),
+        false => later_command_of(number),
+    }
+}
+
+/// How a number says the language: 0 that nothing is said, 1 the edition of 2020, 2 that of 2022, 3 its modules, 4 that each is tried.
+fn asked_of(number: u32) -> Option<AskedLanguage>
+    ensures { NamesLanguage number result }
 {
     match number {
-        0 => Some(LanguageChoice::Unsaid),
-        1 => Some(LanguageChoice::Edition2020),
-        2 => Some(LanguageChoice::Edition2022),
-        3 => Some(LanguageChoice::Module),
+        0 => Some(AskedLanguage::Said(LanguageChoice::Unsaid)),
+        1 => Some(AskedLanguage::Said(LanguageChoice::Edition2020)),
+        2 => Some(AskedLanguage::Said(LanguageChoice::Edition2022)),
+        3 => Some(AskedLanguage::Said(LanguageChoice::Module)),
+        4 => Some(AskedLanguage::Any),
         _ => None,
     }
 }
@@ -98,20 +119,20 @@ fn tell_nothing() -> Outcome
 fn tell_answer(
     alloc: Global,
     command: Command,
-    choice: LanguageChoice,
+    asked: AskedLanguage,
     text: &[u8],
     second: &[u8],
     room: &mut [u8],
 ) -> Outcome
-    ensures { TellsBy command choice text.now second.now room.old room.new result }
+    ensures { TellsBy command asked text.now second.now room.old room.new result }
 {
-    match run_on_bytes(alloc, command, choice, text, second) {
+    match run_on_bytes(alloc, command, asked, text, second) {
         Ok(output) => tell(&output.bytes, output.status, false, room),
         Err(refused) => tell_refusal(alloc, &refused, room),
     }
 }
 
-/// Answers a command for a script and a second text, which `check` reads as its settings, `verify` as its table and `same` as its other
+/// Answers a command for a script and a second text, which `check` and `mend` read as their settings, `verify` as its table and `same` as its other
 /// script, in a language: the answer's beginning, as far as there is room, how long it is, its status, and whether it is a refusal. A number
 /// of no command or of no language has no answer: length 0, status 2 and a refusal, and nothing is put into the room.
 #[unsafe(no_mangle)]
@@ -126,8 +147,8 @@ pub extern "C" fn jslint_answer_in(
 )
     ensures { Tells command language text.now second.now room.old room.new outcome.new }
 {
-    *outcome = match (command_of(command), choice_of(language)) {
-        (Some(command), Some(choice)) => tell_answer(alloc, command, choice, text, second, room),
+    *outcome = match (command_of(command), asked_of(language)) {
+        (Some(command), Some(asked)) => tell_answer(alloc, command, asked, text, second, room),
         _ => tell_nothing(),
     };
 }
@@ -145,7 +166,14 @@ pub extern "C" fn jslint_answer(
     ensures { Tells command 0 text.now second.now room.old room.new outcome.new }
 {
     *outcome = match command_of(command) {
-        Some(command) => tell_answer(alloc, command, LanguageChoice::Unsaid, text, second, room),
+        Some(command) => tell_answer(
+            alloc,
+            command,
+            AskedLanguage::Said(LanguageChoice::Unsaid),
+            text,
+            second,
+            room,
+        ),
         None => tell_nothing(),
     };
 }

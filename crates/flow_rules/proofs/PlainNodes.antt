@@ -21,7 +21,7 @@ use Rattle.flow_rules.specs.Fallthrough.{falls_through, is_said}
 use Rattle.flow_rules.specs.Flows.{flow_of, next_place}
 use Rattle.flow_rules.specs.KindSets.{has_own_this, is_block, is_break, is_call, is_continue, is_if, is_list, is_own_function, is_return, is_switch}
 use Rattle.flow_rules.specs.Over.{over_nodes, over_parts}
-use Rattle.flow_rules.specs.Plain.{are_plain, is_calm, is_plain, is_plain_kind, is_watched, plain_flow}
+use Rattle.flow_rules.specs.Plain.{are_plain, is_calm, is_plain, is_plain_kind, is_silent, is_watched, plain_flow}
 use Rattle.flow_rules.specs.Rows.{gives_nothing, holds, is_awaited, is_bare_return, is_body, is_derived, is_getter, is_this_use, of_rules, place, report_at}
 
 -- ---- tests
@@ -162,7 +162,13 @@ plain-flows t h = λ i. record {
   };
 }
 
--- ---- rules say nothing of a plain node
+-- ---- rules say nothing of a node
+
+no-body : (z : Around) (t : Tree) → is_plain_kind (kind_of t) ≡ true → is_body z t ≡ false
+no-body z t p = last-false (is_function z.round.parent) (is_block (kind_of t)) (no-block (kind_of t) p)
+
+no-bare : (t : Tree) → is_return (kind_of t) ≡ false → is_bare_return t ≡ false
+no-bare t r = first-false (is_return (kind_of t)) (is_none (part_at (parts_of t) 0)) r
 
 -- nothing round a node makes a rule look at it
 record Calm (z : Around) : Type 0 where
@@ -183,13 +189,7 @@ watched-last true s u h = ap (λ x. x && u) h
 loops-on : (l n o : Bool) → n ≡ true → (l && (not n && o)) ≡ false
 loops-on l n o h = last-false l (not n && o) (ap (λ x. not x && o) h)
 
-module _ (source : List ℕ) (z : Around) (flow : Flow) (t : Tree) (c : Calm z) (p : is_plain_kind (kind_of t) ≡ true) (n : flow.normal ≡ true) where
-  no-body : is_body z t ≡ false
-  no-body = last-false (is_function z.round.parent) (is_block (kind_of t)) (no-block (kind_of t) p)
-
-  no-bare : is_bare_return t ≡ false
-  no-bare = first-false (is_return (kind_of t)) (is_none (part_at (parts_of t) 0)) (no-return (kind_of t) p)
-
+module _ (source : List ℕ) (z : Around) (flow : Flow) (t : Tree) (c : Calm z) (no-body : is_body z t ≡ false) (no-bare : is_bare_return t ≡ false) (n : flow.normal ≡ true) where
   gives : gives_nothing z flow t ≡ false
   gives = ap (λ b. (b && flow.normal) || is_bare_return t) no-body ∙ no-bare
 
@@ -269,7 +269,7 @@ mutual
       let p = both-true _ _ h in
       ap (λ l. l ++ of_rules source rules z (flow_of (node k w g s e ps)) (node k w g s e ps))
       (said-of-no-parts source rules (inside z (node k w g s e ps)) ps p.1 p.0 (not-chained z k p.0) (calm-inside z (node k w g s e ps) p.0 c))
-      ∙ none-said source z (flow_of (node k w g s e ps)) (node k w g s e ps) c p.0 (plain-normal (node k w g s e ps) h) rules
+      ∙ none-said source z (flow_of (node k w g s e ps)) (node k w g s e ps) c (no-body z (node k w g s e ps) p.0) (no-bare (node k w g s e ps) (no-return k p.0)) (plain-normal (node k w g s e ps) h) rules
 
   said-of-no-parts : (source : List ℕ) (rules : List FlowRule) (z : Around) (ps : Parts) → are_plain ps ≡ true → is_plain_kind z.round.parent ≡ true → z.chained ≡ false → Calm z →
       over_parts (of_rules source rules) z ps ≡ []
@@ -290,6 +290,14 @@ calm-is z h =
 -- what the walk asks before it passes a node by
 pub nothing-said : (source : List ℕ) (rules : List FlowRule) (z : Around) (t : Tree) (old : List Report) → (is_calm z && is_plain t) ≡ true → old ≡ old ++ over_nodes (of_rules source rules) z t
 nothing-said source rules z t old h = let p = both-true _ _ h in sym (append-nil old) ∙ ap (λ l. old ++ l) (sym (said-of-none source rules z t p.1 (calm-is z p.0)))
+
+-- what it asks before it hands a node to the rules
+pub silent-said : (source : List ℕ) (rules : List FlowRule) (z : Around) (flow : Flow) (t : Tree) (old : List Report) → is_silent z flow t ≡ true → old ≡ old ++ of_rules source rules z flow t
+silent-said source rules z flow t old h =
+    let p = both-true _ _ h in
+    let a = both-true _ _ p.0 in
+    let b = both-true _ _ p.1 in
+    sym (append-nil old) ∙ ap (λ l. old ++ l) (sym (none-said source z flow t (calm-is z a.1) (not-true _ b.1) (no-bare t (not-true _ b.0)) a.0 rules))
 
 pub passed-flows : (z : Around) (t : Tree) → (is_calm z && is_plain t) ≡ true → plain_flow ≡ flow_of t
 passed-flows z t h = sym (plain-flows t ((both-true _ _ h).1))

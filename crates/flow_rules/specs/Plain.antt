@@ -2,12 +2,13 @@
 use Rattle.std.specs.Prelude.{Bool, true, false, not, ◌&&◌, ◌||◌}
 use Rattle.tree.specs.declared.kind.Kind.{Kind}
 use Rattle.tree.specs.declared.kind.Kind.TheVariants.{ArrayExpression, ArrayPattern, AssignmentExpression, AssignmentPattern, AwaitExpression, BinaryExpression, CallExpression, ChainExpression, ConditionalExpression, EmptyStatement, ExpressionStatement, Identifier, ImportExpression, Literal, LogicalExpression, MemberExpression, MetaProperty, NewExpression, ObjectExpression, ObjectPattern, PrivateIdentifier, Property, RestElement, SequenceExpression, SpreadElement, TaggedTemplateExpression, TemplateElement, TemplateLiteral, ThisExpression, UnaryExpression, UpdateExpression, VariableDeclaration, VariableDeclarator, YieldExpression}
-use Rattle.tree.specs.Tree.{Tree, node, Parts, none, part, gap}
+use Rattle.tree.specs.Tree.{Tree, node, Parts, none, part, gap, kind_of}
 use Rattle.flow_rules.specs.declared.around.Around.{Around}
 use Rattle.flow_rules.specs.declared.flow.Flow.{Flow}
 use Rattle.flow_rules.specs.Arounds.{is_third}
 use Rattle.flow_rules.specs.Flows.{no_leaving}
-use Rattle.flow_rules.specs.Rows.{is_derived}
+use Rattle.flow_rules.specs.KindSets.{is_return}
+use Rattle.flow_rules.specs.Rows.{is_body, is_derived}
 
 -- calls, members and operations
 abbrev pub is_operation : Kind → Bool
@@ -75,3 +76,7 @@ is_calm z = (not z.stopped && not z.falls) && (not (z.chained && is_third z.plac
 -- it completes normally, and nothing leaves it
 abbrev pub plain_flow : Flow
 plain_flow = record { normal = true; leaving = no_leaving }
+
+-- no rule says anything of the node itself
+abbrev pub is_silent : Around → Flow → Tree → Bool
+is_silent z flow tree = (flow.normal && is_calm z) && (not (is_return (kind_of tree)) && not (is_body z tree))

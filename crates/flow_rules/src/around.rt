@@ -147,41 +147,30 @@ impl Around {
         }
     }
 
-    /// Round the next part, behind the one that stands here.
-    pub(crate) fn behind(self, flow: Flow, node: Node) -> Around
-        ensures { result ≡ behind self flow (node_tree node.entry) }
+    /// Goes on to the next part, behind the one that stands here.
+    #[inline]
+    pub(crate) fn pass(&mut self, flow: Flow, node: Node)
+        ensures { self.new ≡ behind self.old flow (node_tree node.entry) }
     {
         let parent = self.round.parent;
-        Around {
-            round: self.round,
-            place: self.place.next(),
-            left: self.left.saturating_sub(1),
-            has_super: self.has_super || flow.leaving.supers,
-            stopped: self.stopped || (is_list(parent) && !flow.normal),
-            in_run: self.stopped && !is_hoisted(node),
-            falls: is_switch(parent) && falls_through(flow, node),
-            falls_from: quiet_from(node),
-            derived: self.derived || (is_class(parent) && is_second(self.place)),
-            chained: self.chained && (!is_second(self.place) || returns(flow)),
-        }
+        self.chained = self.chained && (!is_second(self.place) || returns(flow));
+        self.derived = self.derived || (is_class(parent) && is_second(self.place));
+        self.falls_from = quiet_from(node);
+        self.falls = is_switch(parent) && falls_through(flow, node);
+        self.in_run = self.stopped && !is_hoisted(node);
+        self.stopped = self.stopped || (is_list(parent) && !flow.normal);
+        self.has_super = self.has_super || flow.leaving.supers;
+        self.left = self.left.saturating_sub(1);
+        self.place = self.place.next();
     }
 
-    /// Round the next part, behind a gap.
-    pub(crate) fn behind_gap(self) -> Around
-        ensures { result ≡ behind_gap self }
+    /// Goes on to the next part, behind a gap.
+    #[inline]
+    pub(crate) fn pass_gap(&mut self)
+        ensures { self.new ≡ behind_gap self.old }
     {
-        Around {
-            round: self.round,
-            place: self.place.next(),
-            left: self.left.saturating_sub(1),
-            has_super: self.has_super,
-            stopped: self.stopped,
-            in_run: self.in_run,
-            falls: self.falls,
-            falls_from: self.falls_from,
-            derived: self.derived,
-            chained: self.chained,
-        }
+        self.left = self.left.saturating_sub(1);
+        self.place = self.place.next();
     }
 
     /// Whether a callback whose value is used stands here.

@@ -175,18 +175,17 @@ impl Sums {
         }
     }
 
-    /// With one more part, at this place.
-    pub(crate) fn with_part(self, place: Place, flow: Flow, node: Node) -> Sums
-        ensures { result ≡ with_part self place flow (node_tree node.entry) }
+    /// Adds one more part, at this place.
+    #[inline]
+    pub(crate) fn add(&mut self, place: Place, flow: Flow, node: Node)
+        ensures { self.new ≡ with_part self.old place flow (node_tree node.entry) }
     {
-        Sums {
-            all: self.all && flow.normal,
-            first: place.at_first(flow.normal, self.first),
-            second: place.at_second(flow.normal, self.second),
-            third: place.at_third(flow.normal, self.third),
-            last: flow.normal,
-            has_default: self.has_default || is_default(node),
-            leaving: self.leaving.with(flow.leaving),
-        }
+        self.all = self.all && flow.normal;
+        self.first = place.at_first(flow.normal, self.first);
+        self.second = place.at_second(flow.normal, self.second);
+        self.third = place.at_third(flow.normal, self.third);
+        self.last = flow.normal;
+        self.has_default = self.has_default || is_default(node);
+        self.leaving = self.leaving.with(flow.leaving);
     }
 }

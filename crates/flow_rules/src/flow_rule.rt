@@ -196,7 +196,7 @@ fn is_awaited(home: Home) -> bool
 }
 
 /// Whether a node is the block of a function.
-fn is_body(around: Around, node: Node) -> bool
+pub(crate) fn is_body(around: Around, node: Node) -> bool
     ensures { result ≡ is_body around (node_tree node.entry) }
 {
     around.round.parent.is_function() && is_block(node.kind())

@@ -2,10 +2,12 @@
 
 ghost use Rattle.std.specs.Prelude.{◌≡◌, ◌&&◌, IsTrue};
 ghost use Rattle.tree.specs.Node.{node_tree};
-ghost use Rattle.flow_rules.specs.Plain.{is_calm, is_operation, is_piece, is_plain, is_plain_kind, is_watched};
+ghost use Rattle.flow_rules.specs.Plain.{is_calm, is_operation, is_piece, is_plain, is_plain_kind, is_silent, is_watched};
 
 use crate::around::{Around, is_third};
-use crate::flow_rule::is_derived;
+use crate::flow::Flow;
+use crate::flow_rule::{is_body, is_derived};
+use crate::kind_sets::is_return;
 use tree::{Kind, Node};
 
 /// Whether it is the kind of a call, a member or an operation.
@@ -111,4 +113,13 @@ pub(crate) fn is_passed(around: Around, node: Node) -> bool
 {
     (node.part_count() == 0 || !is_plain_kind(around.round.parent))
         && (is_calm(around) && is_plain(node))
+}
+
+/// Whether rules say nothing of a node itself, as of most that the walk enters: nothing round it makes one look, and it is neither a `return`
+/// nor the block of a function, nor does it end what it stands in.
+#[inline]
+pub(crate) fn is_silent(around: Around, flow: Flow, node: Node) -> bool
+    ensures { result ≡ is_silent around flow (node_tree node.entry) }
+{
+    (flow.normal && is_calm(around)) && (!is_return(node.kind()) && !is_body(around, node))
 }

@@ -14,7 +14,7 @@ use crate::around::Around;
 use crate::completion::flow_by;
 use crate::flow::{Flow, Sums};
 use crate::flow_rule::{FlowRule, holds, place, words};
-use crate::plain::is_passed;
+use crate::plain::{is_passed, is_silent};
 use rule_words::{Report, push_fixed_report};
 use std::alloc::{AllocError, Global};
 use tree::{Node, Program};
@@ -32,6 +32,23 @@ struct FlowWalk<'w> {
 struct Before {
     around: Around,
     sums: Sums,
+}
+
+impl Before {
+    ghost use Rattle.std.specs.Prelude.{◌≡◌};
+    ghost use Rattle.tree.specs.Node.{node_tree};
+    ghost use Rattle.flow_rules.specs.Arounds.{behind};
+    ghost use Rattle.flow_rules.specs.Flows.{with_part};
+
+    /// Goes on to the next part, behind the one that stands here.
+    #[inline]
+    fn pass(&mut self, flow: Flow, node: Node)
+        ensures around { self.new.around ≡ behind self.old.around flow (node_tree node.entry) }
+        ensures sums { self.new.sums ≡ with_part self.old.sums self.old.around.place flow (node_tree node.entry) }
+    {
+        self.sums.add(self.around.place, flow, node);
+        self.around.pass(flow, node);
+    }
 }
 
 /// Appends what rules report of all nodes of a script, whose text is `source`.
@@ -57,7 +74,7 @@ pub fn push_found(
         source,
         alloc,
     };
-    push_nodes(walk, Around::root(), program.root(), out)?;
+    push_nodes(&walk, &Around::root(), program.root(), out)?;
     Ok(())
 }
 
@@ -65,54 +82,51 @@ pub fn push_found(
 #[cycle(walking)]
 #[tactic(auto, using(tree::proofs::PartWalk::part_steps))]
 fn push_nodes(
-    walk: FlowWalk,
-    around: Around,
+    walk: &FlowWalk,
+    around: &Around,
     node: Node,
     out: &mut Vec<Report>,
 ) -> Result<Flow, AllocError>
     ensures flow { IfOk result (λ f. f ≡ flow_of (node_tree node.entry)) }
-    ensures found { OnOk result (out.new.items ≡ out.old.items ++ over_nodes (of_rules walk.entry.source.now walk.entry.rules.now) around (node_tree node.entry)) }
+    ensures found { OnOk result (out.new.items ≡ out.old.items ++ over_nodes (of_rules walk.now.source.now walk.now.rules.now) around.now (node_tree node.entry)) }
     ensures kept { Grows out.old.items out.new.items }
 {
-    if is_passed(around, node) {
-        return Ok(Flow::plain());
-    }
     let mut before = Before {
         around: around.inside(node),
         sums: Sums::none(),
     };
     for index in 0..node.part_count() {
-        before = push_part(walk, before, node.part(index), out)?;
+        push_part(walk, &mut before, node.part(index), out)?;
     }
     let flow = flow_by(node, before.sums);
-    push_each(walk, around, flow, node, out)?;
+    push_each(*walk, *around, flow, node, out)?;
     Ok(flow)
 }
 
-/// The same of a part, which may be missing; answers what is known before the next one.
+/// The same of a part, which may be missing, and what is known before the next one.
 #[cycle(walking)]
 fn push_part(
-    walk: FlowWalk,
-    before: Before,
+    walk: &FlowWalk,
+    before: &mut Before,
     part: Option<Node>,
     out: &mut Vec<Report>,
-) -> Result<Before, AllocError>
-    ensures around { IfOk result (λ b. b.around ≡ around_behind before.around (option_map node_tree part.entry)) }
-    ensures sums { IfOk result (λ b. b.sums ≡ sums_behind before.around before.sums (option_map node_tree part.entry)) }
-    ensures found { OnOk result (out.new.items ≡ out.old.items ++ over_part (of_rules walk.entry.source.now walk.entry.rules.now) before.around (option_map node_tree part.entry)) }
+) -> Result<(), AllocError>
+    ensures around { OnOk result (before.new.around ≡ around_behind before.old.around (option_map node_tree part.entry)) }
+    ensures sums { OnOk result (before.new.sums ≡ sums_behind before.old.around before.old.sums (option_map node_tree part.entry)) }
+    ensures found { OnOk result (out.new.items ≡ out.old.items ++ over_part (of_rules walk.now.source.now walk.now.rules.now) before.old.around (option_map node_tree part.entry)) }
     ensures kept { Grows out.old.items out.new.items }
 {
     let Some(part) = part else {
-        return Ok(Before {
-            around: before.around.behind_gap(),
-            sums: before.sums,
-        });
+        before.around.pass_gap();
+        return Ok(());
     };
-    let flow = push_nodes(walk, before.around, part, out)?;
-    Ok(Before {
-        around: before.around.behind(flow, part),
-        sums: before.sums.with_part(before.around.place, flow, part),
-    })
+    if is_passed(before.around, part) {
+        before.pass(Flow::plain(), part);
+        return Ok(());
+    }
+    let flow = push_nodes(walk, &before.around, part, out)?;
+    before.pass(flow, part);
+    Ok(())
 }
 
 /// Appends what rules report of a node, rule after rule.
@@ -126,6 +140,9 @@ fn push_each(
     ensures found { OnOk result (out.new.items ≡ out.old.items ++ of_rules walk.entry.source.now walk.entry.rules.now around flow (node_tree node.entry)) }
     ensures kept { Grows out.old.items out.new.items }
 {
+    if is_silent(around, flow, node) {
+        return Ok(());
+    }
     for rule in walk.rules {
         push_one(walk, *rule, around, flow, node, out)?;
     }

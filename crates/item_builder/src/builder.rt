@@ -4,6 +4,7 @@ use crate::comments::{has_line_end, lines, push_comment, push_last_comment};
 use crate::gap::{Comment, Gap, LineEnds};
 use crate::gap_part::begins_with_ended_comment;
 use crate::options::Options;
+use crate::run::Run;
 use layout_items::{Item, ItemList, Style};
 use std::alloc::{AllocError, Global};
 use tokens::TokenClass;
@@ -20,6 +21,8 @@ pub struct Builder<'t> {
     /// What stands before it.
     pub(crate) gap: Gap<'t>,
     items: ItemList<'t>,
+    /// Tokens that aren't among the items yet, since the next one may be of the same piece.
+    run: Option<Run>,
     style: Style,
     options: Options,
     /// Where the last token ended, in bytes.
@@ -57,6 +60,7 @@ impl<'t> Builder<'t> {
             next: 0,
             gap: Gap::new(alloc),
             items: ItemList::new(alloc),
+            run: None,
             style,
             options,
             end: start,
@@ -94,7 +98,8 @@ impl<'t> Builder<'t> {
     ///
     /// # Errors
     /// `AllocError` where memory was refused for comments.
-    pub fn finished(self) -> Result<Option<ItemList<'t>>, AllocError> {
+    pub fn finished(mut self) -> Result<Option<ItemList<'t>>, AllocError> {
+        self.end_run();
         let Builder {
             items,
             is_lost,
@@ -164,6 +169,12 @@ impl<'t> Builder<'t> {
             .unwrap_or("")
     }
 
+    /// Whether this is the text of a token.
+    fn is_text_of(&self, row: TokenRow, text: &str) -> bool {
+        let length = row.span.end.saturating_sub(row.span.start) as usize;
+        length == text.len() && self.text_of(row) == text
+    }
+
     /// The text of the next token, or one further on.
     pub fn peek(&self, ahead: usize) -> &'t str {
         match self.row(ahead) {
@@ -179,7 +190,7 @@ impl<'t> Builder<'t> {
                 matches!(
                     row.class,
                     TokenClass::Punctuator | TokenClass::IdentifierName | TokenClass::Keyword
-                ) && self.text_of(row) == text
+                ) && self.is_text_of(row, text)
             }
             None => false,
         }
@@ -196,8 +207,11 @@ impl<'t> Builder<'t> {
     /// An item; a space behind a break that is one when flat goes, so that it isn't counted twice.
     pub fn push(&mut self, item: Item<'t>) {
         match item {
-            Item::Space if self.is_behind_space => return,
-            Item::Space | Item::Line | Item::CutLine | Item::HardLine | Item::BlankLine => {
+            Item::Space => {
+                self.space();
+                return;
+            }
+            Item::Line | Item::CutLine | Item::HardLine | Item::BlankLine => {
                 self.is_behind_space = true
             }
             Item::Piece { .. } | Item::Lines { .. } | Item::LastOnLine { .. } => {
@@ -205,7 +219,51 @@ impl<'t> Builder<'t> {
             }
             _ => {}
         }
+        self.end_run();
         self.items.push(item);
+    }
+
+    /// A space.
+    pub fn space(&mut self) {
+        if self.is_behind_space {
+            return;
+        }
+        self.is_behind_space = true;
+        match self.run {
+            Some(run) => self.run = Some(run.spaced()),
+            None => self.items.push(Item::Space),
+        }
+    }
+
+    /// The tokens that were left open are a piece.
+    fn end_run(&mut self) {
+        let Some(run) = self.run else {
+            return;
+        };
+        self.run = None;
+        self.items.push(Item::Piece {
+            text: self.text.get(run.start..run.end).unwrap_or(""),
+            columns: run.columns,
+        });
+        if run.is_spaced {
+            self.items.push(Item::Space);
+        }
+    }
+
+    /// A token of one line: of the same piece as the one before it, if the text has just what was asked for between them.
+    fn push_token(&mut self, row: TokenRow, columns: u32) {
+        self.is_behind_space = false;
+        let start = row.span.start as usize;
+        let end = row.span.end as usize;
+        match self.run {
+            Some(run) if run.goes_on_at(self.text, start) => {
+                self.run = Some(run.with(end, columns));
+            }
+            _ => {
+                self.end_run();
+                self.run = Some(Run::of_token(start, end, columns));
+            }
+        }
     }
 
     /// A place where a line may end or must. What ends the line before it stands before it.
@@ -285,31 +343,25 @@ impl<'t> Builder<'t> {
             return;
         };
         let text = self.text_of(row);
-        if matches!(text, "?" | ":" | "." | "?.") {
+        if !self.gap.is_empty() && matches!(text, "?" | ":" | "." | "?.") {
             self.push_behind_in_line();
         }
         self.push_lead(text);
-        self.push(piece(text));
+        self.push_token(row, columns_of_token(row, text));
         self.pass();
     }
 
     /// The next token, which must be this one.
     pub fn token(&mut self, text: &str) {
-        if self.peek(0) != text {
-            self.is_lost = true;
-            return;
+        match self.row(0) {
+            Some(row) if self.is_text_of(row, text) => self.any_token(),
+            _ => self.is_lost = true,
         }
-        self.any_token();
-    }
-
-    /// A space.
-    pub fn space(&mut self) {
-        self.push(Item::Space);
     }
 
     /// Comments that end the line of the token before.
     pub fn push_behind(&mut self) {
-        if !self.gap.has_line_end() {
+        if self.gap.is_empty() || !self.gap.has_line_end() {
             return;
         }
         let count = self.gap.first_line();
@@ -344,6 +396,10 @@ impl<'t> Builder<'t> {
 
     /// The comments before the next token.
     fn push_lead(&mut self, token: &str) {
+        if self.gap.is_empty() {
+            self.gap.clear();
+            return;
+        }
         self.push_behind();
         let is_tight = matches!(token, "," | ";" | ")" | "]" | "." | "?.");
         let count = self.gap.len();
@@ -582,6 +638,20 @@ pub(crate) fn piece(text: &str) -> Item<'_> {
         text,
         columns: columns_of(text),
     }
+}
+
+/// The columns of a token: a string may have several lines, and other tokens that are pieces have one.
+fn columns_of_token(row: TokenRow, text: &str) -> u32 {
+    match row.class {
+        TokenClass::StringLiteral | TokenClass::Template => columns_of(text),
+        _ => characters_of(text),
+    }
+}
+
+/// The characters of a text: bytes that aren't later ones of a character.
+fn characters_of(text: &str) -> u32 {
+    let bytes = text.as_bytes().iter();
+    u32::try_from(bytes.filter(|c| !matches!(**c, 128..=191)).count()).unwrap_or(u32::MAX)
 }
 
 /// The characters of the first line of a text.

@@ -127,7 +127,17 @@ impl<'t> Gap<'t> {
 
     /// Adds what stands between two places of a text, in bytes.
     pub(crate) fn read(&mut self, text: &'t str, from: usize, to: usize) -> Result<(), AllocError> {
-        self.read_between(text.get(from..to).unwrap_or(""))
+        if from == to {
+            return Ok(());
+        }
+        let between = text.get(from..to).unwrap_or("");
+        match line_ends_of_blanks(between) {
+            Some(ends) => {
+                self.after = self.after.joined(ends);
+                Ok(())
+            }
+            None => self.read_between(between),
+        }
     }
 
     /// Adds all of a text that stands between two tokens.
@@ -191,4 +201,17 @@ impl<'t> Gap<'t> {
         }
         self.after = LineEnds::No;
     }
+}
+
+/// The line ends of a text of nothing but spaces, tabs and line feeds, as most gaps are; none of another one.
+fn line_ends_of_blanks(text: &str) -> Option<LineEnds> {
+    let mut ends = LineEnds::No;
+    for c in text.as_bytes() {
+        match *c {
+            b'\n' => ends = ends.with_one(),
+            b' ' | b'\t' => {}
+            _ => return None,
+        }
+    }
+    Some(ends)
 }

@@ -14,6 +14,7 @@ mod gap_part;
 mod kinds;
 mod numbers;
 mod options;
+mod run;
 
 pub use around::{Around, Hug};
 pub use brackets::{empty_braces, empty_brackets};

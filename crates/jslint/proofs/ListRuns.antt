@@ -13,7 +13,7 @@ use Rattle.source_text.specs.declared.fault.Fault.TheVariants.{OutOfMemory, Read
 use Rattle.commands.specs.Refused.{at_no_place, no_memory}
 use Rattle.commands.specs.WholeTexts.{ReadsUpTo}
 use Rattle.commands.specs.declared.command.Command.{Command}
-use Rattle.commands.specs.declared.language_choice.LanguageChoice.{LanguageChoice}
+use Rattle.commands.specs.declared.asked_language.AskedLanguage.{AskedLanguage}
 use Rattle.commands.specs.declared.refused.Refused.{Refused}
 use Rattle.command_line.specs.Shown.{escaped_name, shown_bytes}
 use Rattle.command_line.specs.declared.line.Line.{Line}
@@ -60,55 +60,55 @@ tells_names alone names listed o p e f had_o had_e failed_o failed_e status are 
 -- ---- what is told of a file, by its name and what that is shown as
 
 -- an answer
-pub telling_answered : (gives : Contents) (command : Command) (choice : LanguageChoice) (settings name shown text held : List ℕ) (result : Result Telling AllocError)
-    → text ≡ held → Holds gives name held → shown ≡ escaped_name name → IfOk result (λ telling. Answers command choice shown text settings telling)
-    → IfOk result (λ telling. IsTelling gives command choice settings name telling)
-telling_answered gives command choice settings name shown text held (Ok telling) read holds same (answer, is, tells) =
+pub telling_answered : (gives : Contents) (command : Command) (asked : AskedLanguage) (settings name shown text held : List ℕ) (result : Result Telling AllocError)
+    → text ≡ held → Holds gives name held → shown ≡ escaped_name name → IfOk result (λ telling. Answers command asked shown text settings telling)
+    → IfOk result (λ telling. IsTelling gives command asked settings name telling)
+telling_answered gives command asked settings name shown text held (Ok telling) read holds same (answer, is, tells) =
     (told_of shown answer, answered text answer (subst (Holds gives name) (sym read) holds) is (ap (λ (s : List ℕ). told_of s answer) same), tells)
-telling_answered gives command choice settings name shown text held (Err e) read holds same made = tt
+telling_answered gives command asked settings name shown text held (Err e) read holds same made = tt
 
 -- a file that can't be read
-telling_unread : (gives : Contents) (command : Command) (choice : LanguageChoice) (settings name shown : List ℕ) (failure : ReadFailure) (result : Result Telling AllocError)
+telling_unread : (gives : Contents) (command : Command) (asked : AskedLanguage) (settings name shown : List ℕ) (failure : ReadFailure) (result : Result Telling AllocError)
     → CannotRead gives name failure → shown ≡ escaped_name name → IfOk result (λ telling. Tells telling (told_unread shown failure))
-    → IfOk result (λ telling. IsTelling gives command choice settings name telling)
-telling_unread gives command choice settings name shown failure (Ok telling) cannot same tells =
+    → IfOk result (λ telling. IsTelling gives command asked settings name telling)
+telling_unread gives command asked settings name shown failure (Ok telling) cannot same tells =
     (told_unread shown failure, unread failure cannot (ap (λ (s : List ℕ). told_unread s failure) same), tells)
-telling_unread gives command choice settings name shown failure (Err e) cannot same tells = tt
+telling_unread gives command asked settings name shown failure (Err e) cannot same tells = tt
 
 -- one for which memory was refused
-telling_refused : (gives : Contents) (command : Command) (choice : LanguageChoice) (settings name shown : List ℕ) (refused : Refused) (result : Result Telling AllocError)
+telling_refused : (gives : Contents) (command : Command) (asked : AskedLanguage) (settings name shown : List ℕ) (refused : Refused) (result : Result Telling AllocError)
     → refused ≡ no_memory → shown ≡ escaped_name name → IfOk result (λ telling. Tells telling (told_of shown (Err refused)))
-    → IfOk result (λ telling. IsTelling gives command choice settings name telling)
-telling_refused gives command choice settings name shown refused (Ok telling) is same tells =
+    → IfOk result (λ telling. IsTelling gives command asked settings name telling)
+telling_refused gives command asked settings name shown refused (Ok telling) is same tells =
     (told_of shown (Err refused), no_memory_for (ap (λ (s : List ℕ). told_of s (Err refused)) same ∙ ap (λ (r : Refused). told_of (escaped_name name) (Err r)) is), tells)
-telling_refused gives command choice settings name shown refused (Err e) is same tells = tt
+telling_refused gives command asked settings name shown refused (Err e) is same tells = tt
 
 -- one whose read stopped
-pub telling_stopped : (gives : Contents) (command : Command) (choice : LanguageChoice) (settings name shown : List ℕ) (stop : Stop) (result : Result Telling AllocError)
+pub telling_stopped : (gives : Contents) (command : Command) (asked : AskedLanguage) (settings name shown : List ℕ) (stop : Stop) (result : Result Telling AllocError)
     → StopsReading gives name stop → shown ≡ escaped_name name → IfOk result (λ telling. Tells telling (told_stop shown stop))
-    → IfOk result (λ telling. IsTelling gives command choice settings name telling)
-telling_stopped gives command choice settings name shown (Unread _ failure) result stops = telling_unread gives command choice settings name shown failure result stops.1
-telling_stopped gives command choice settings name shown (Refuses refused) result stops = telling_refused gives command choice settings name shown refused result stops
+    → IfOk result (λ telling. IsTelling gives command asked settings name telling)
+telling_stopped gives command asked settings name shown (Unread _ failure) result stops = telling_unread gives command asked settings name shown failure result stops.1
+telling_stopped gives command asked settings name shown (Refuses refused) result stops = telling_refused gives command asked settings name shown refused result stops
 
 -- standard input
-pub telling_input : (gives : Contents) (command : Command) (choice : LanguageChoice) (settings name shown : List ℕ) (result : Result Telling AllocError)
+pub telling_input : (gives : Contents) (command : Command) (asked : AskedLanguage) (settings name shown : List ℕ) (result : Result Telling AllocError)
     → is_input name ≡ true → shown ≡ escaped_name name → IfOk result (λ telling. Tells telling (told_unread shown InList))
-    → IfOk result (λ telling. IsTelling gives command choice settings name telling)
-telling_input gives command choice settings name shown (Ok telling) is same tells =
+    → IfOk result (λ telling. IsTelling gives command asked settings name telling)
+telling_input gives command asked settings name shown (Ok telling) is same tells =
     (told_unread shown InList, input is (ap (λ (s : List ℕ). told_unread s InList) same), tells)
-telling_input gives command choice settings name shown (Err e) is same tells = tt
+telling_input gives command asked settings name shown (Err e) is same tells = tt
 
 -- a name that isn't UTF-8
-pub telling_misnamed : (gives : Contents) (command : Command) (choice : LanguageChoice) (settings name : List ℕ) (result : Result Telling AllocError)
+pub telling_misnamed : (gives : Contents) (command : Command) (asked : AskedLanguage) (settings name : List ℕ) (result : Result Telling AllocError)
     → ¬ (IsUtf8 name) → IfOk result (λ telling. Tells telling (told_unread (shown_bytes name) NotUtf8))
-    → IfOk result (λ telling. IsTelling gives command choice settings name telling)
-telling_misnamed gives command choice settings name (Ok telling) bad tells = (told_unread (shown_bytes name) NotUtf8, misnamed bad refl, tells)
-telling_misnamed gives command choice settings name (Err e) bad tells = tt
+    → IfOk result (λ telling. IsTelling gives command asked settings name telling)
+telling_misnamed gives command asked settings name (Ok telling) bad tells = (told_unread (shown_bytes name) NotUtf8, misnamed bad refl, tells)
+telling_misnamed gives command asked settings name (Err e) bad tells = tt
 
 -- the name is the same by another word
-pub telling_renamed : (gives : Contents) (command : Command) (choice : LanguageChoice) (settings name other : List ℕ) (result : Result Telling AllocError) → other ≡ name
-    → IfOk result (λ telling. IsTelling gives command choice settings other telling) → IfOk result (λ telling. IsTelling gives command choice settings name telling)
-telling_renamed gives command choice settings name other result same = subst (λ (n : List ℕ). IfOk result (λ telling. IsTelling gives command choice settings n telling)) same
+pub telling_renamed : (gives : Contents) (command : Command) (asked : AskedLanguage) (settings name other : List ℕ) (result : Result Telling AllocError) → other ≡ name
+    → IfOk result (λ telling. IsTelling gives command asked settings other telling) → IfOk result (λ telling. IsTelling gives command asked settings name telling)
+telling_renamed gives command asked settings name other result same = subst (λ (n : List ℕ). IfOk result (λ telling. IsTelling gives command asked settings n telling)) same
 
 -- ---- the list and the settings
 
@@ -128,9 +128,9 @@ stops_second gives line name (Err (Unread other failure)) named (is, cannot) =
 stops_second gives line name (Err (Refuses refused)) named stops = stops
 
 -- and the first
-pub stops_first : (gives : Contents) (line : Line) (choice : LanguageChoice) (stop : Stop) → StopsReading gives line.file.now stop → StopsList gives line choice stop
-stops_first gives line choice (Unread other failure) (is, cannot) = inl (inl is, subst (λ (n : Text). CannotRead gives n failure) (sym is) cannot)
-stops_first gives line choice (Refuses refused) stops = inr (inr stops)
+pub stops_first : (gives : Contents) (line : Line) (asked : AskedLanguage) (stop : Stop) → StopsReading gives line.file.now stop → StopsList gives line asked stop
+stops_first gives line asked (Unread other failure) (is, cannot) = inl (inl is, subst (λ (n : Text). CannotRead gives n failure) (sym is) cannot)
+stops_first gives line asked (Refuses refused) stops = inr (inr stops)
 
 -- want of memory has words of its own
 pub told_reading : (gives : Contents) (name : Text) (stop : Stop) → StopsReading gives name stop → IsTold stop
@@ -141,9 +141,9 @@ told_reading gives name (Refuses refused) is = λ usage. no_usage (sym (ap (λ r
     no_usage e = cc
 
 -- the files of a list were told of, or memory was refused for their names
-pub runs_list : (gives : Contents) (line : Line) (choice : LanguageChoice) (list settings held named : List ℕ) (output errors : Written) (status : ℕ)
-    → list ≡ held → settings ≡ named → Holds gives line.file.now held → HasSettings gives line named → TellsNames gives line.command choice settings list output errors status
-    → RunsList gives line choice output errors status
-runs_list gives line choice list settings held named output errors status read also holds has (inl tells) =
+pub runs_list : (gives : Contents) (line : Line) (asked : AskedLanguage) (list settings held named : List ℕ) (output errors : Written) (status : ℕ)
+    → list ≡ held → settings ≡ named → Holds gives line.file.now held → HasSettings gives line named → TellsNames gives line.command asked settings list output errors status
+    → RunsList gives line asked output errors status
+runs_list gives line asked list settings held named output errors status read also holds has (inl tells) =
     inl (list, settings, subst (Holds gives line.file.now) (sym read) holds, subst (HasSettings gives line) (sym also) has, tells)
-runs_list gives line choice list settings held named output errors status read also holds has (inr (kept, ends)) = inr (Refuses no_memory, inr (inr refl), kept, ends)
+runs_list gives line asked list settings held named output errors status read also holds has (inr (kept, ends)) = inr (Refuses no_memory, inr (inr refl), kept, ends)

@@ -6,7 +6,7 @@ use Rattle.source_text.specs.Source.{max_bytes}
 use Rattle.source_text.specs.declared.fault.Fault.TheVariants.{TooLong}
 use Rattle.commands.specs.Refused.{at_no_place, no_memory}
 use Rattle.commands.specs.declared.command.Command.{Command}
-use Rattle.commands.specs.declared.language_choice.LanguageChoice.{LanguageChoice}
+use Rattle.commands.specs.declared.asked_language.AskedLanguage.{AskedLanguage}
 use Rattle.commands.specs.declared.refused.Refused.{Refused}
 use Rattle.command_line.specs.Shown.{escaped_name, shown_bytes}
 use Rattle.command_line.specs.declared.line.Line.{Line}
@@ -43,18 +43,18 @@ told_stop shown (Refuses refused) = told_of shown (Err refused)
 
 -- What is told of a file alone, by its name: the answer of a run over what it holds; or why there is none. Its lines have the name, each hidden character
 -- escaped; of a name that isn't UTF-8 each byte beyond ASCII.
-pub data TellsFile (gives : Contents) (command : Command) (choice : LanguageChoice) (settings name : List ℕ) (told : Told) : Type 0 where
-  answered : (text : List ℕ) (answer : Result Output Refused) → Holds gives name text → AnswersBytes command choice text settings answer
-      → told ≡ told_of (escaped_name name) answer → TellsFile gives command choice settings name told
-  unread : (failure : ReadFailure) → CannotRead gives name failure → told ≡ told_unread (escaped_name name) failure → TellsFile gives command choice settings name told
-  input : is_input name ≡ true → told ≡ told_unread (escaped_name name) InList → TellsFile gives command choice settings name told
-  misnamed : ¬ (IsUtf8 name) → told ≡ told_unread (shown_bytes name) NotUtf8 → TellsFile gives command choice settings name told
-  no_memory_for : told ≡ told_of (escaped_name name) (Err no_memory) → TellsFile gives command choice settings name told
-  no_memory_left : told ≡ told_no_memory → TellsFile gives command choice settings name told
+pub data TellsFile (gives : Contents) (command : Command) (asked : AskedLanguage) (settings name : List ℕ) (told : Told) : Type 0 where
+  answered : (text : List ℕ) (answer : Result Output Refused) → Holds gives name text → AnswersBytes command asked text settings answer
+      → told ≡ told_of (escaped_name name) answer → TellsFile gives command asked settings name told
+  unread : (failure : ReadFailure) → CannotRead gives name failure → told ≡ told_unread (escaped_name name) failure → TellsFile gives command asked settings name told
+  input : is_input name ≡ true → told ≡ told_unread (escaped_name name) InList → TellsFile gives command asked settings name told
+  misnamed : ¬ (IsUtf8 name) → told ≡ told_unread (shown_bytes name) NotUtf8 → TellsFile gives command asked settings name told
+  no_memory_for : told ≡ told_of (escaped_name name) (Err no_memory) → TellsFile gives command asked settings name told
+  no_memory_left : told ≡ told_no_memory → TellsFile gives command asked settings name told
 
 -- what is to be told is what a file alone has
-abbrev pub IsTelling : Contents → Command → LanguageChoice → (settings name : List ℕ) → Telling → Type 0
-IsTelling gives command choice settings name telling = (told : Told) × TellsFile gives command choice settings name told × Tells telling told
+abbrev pub IsTelling : Contents → Command → AskedLanguage → (settings name : List ℕ) → Telling → Type 0
+IsTelling gives command asked settings name telling = (told : Told) × TellsFile gives command asked settings name told × Tells telling told
 
 -- a file of a line can't be read, or memory is refused
 abbrev pub StopsFile : Contents → Line → Stop → Type 0
@@ -71,10 +71,10 @@ abbrev pub HasSettings : Contents → Line → List ℕ → Type 0
 HasSettings gives line settings = HoldsAny gives (second_name line) settings
 
 -- The list of a line and its settings were read, once, and each file that the list names was told of.
-abbrev pub TellsListed : Contents → Line → LanguageChoice → Seen → Seen → ℕ → Type 0
-TellsListed gives line choice output errors status =
+abbrev pub TellsListed : Contents → Line → AskedLanguage → Seen → Seen → ℕ → Type 0
+TellsListed gives line asked output errors status =
     (list settings : List ℕ) × Holds gives line.file.now list × HasSettings gives line settings
-    × TellsEach (TellsFile gives line.command choice settings) (names_of list) output errors status
+    × TellsEach (TellsFile gives line.command asked settings) (names_of list) output errors status
 
 -- why the files of a list aren't looked at: the list or the settings can't be read, or both are standard input
 abbrev pub StopsUnread : Contents → Line → Text → ReadFailure → Type 0
@@ -82,12 +82,12 @@ StopsUnread gives line name failure =
     (IsNamed line name × CannotRead gives name failure) ⊎ ((is_twice line ≡ true) × (name ≡ line.file.now) × (failure ≡ Twice))
 
 -- or the list is too long, a run over an empty text is refused, as by settings that aren't any, or memory is refused
-abbrev pub StopsRefused : Contents → Line → LanguageChoice → Refused → Type 0
-StopsRefused gives line choice refused =
+abbrev pub StopsRefused : Contents → Line → AskedLanguage → Refused → Type 0
+StopsRefused gives line asked refused =
     ((list : List ℕ) × Holds gives line.file.now list × (max_bytes < length list) × (refused ≡ at_no_place TooLong))
-    ⊎ ((settings : List ℕ) × HasSettings gives line settings × AnswersBytes line.command choice [] settings (Err refused))
+    ⊎ ((settings : List ℕ) × HasSettings gives line settings × AnswersBytes line.command asked [] settings (Err refused))
     ⊎ (refused ≡ no_memory)
 
-abbrev pub StopsList : Contents → Line → LanguageChoice → Stop → Type 0
-StopsList gives line choice (Unread name failure) = StopsUnread gives line name.now failure
-StopsList gives line choice (Refuses refused) = StopsRefused gives line choice refused
+abbrev pub StopsList : Contents → Line → AskedLanguage → Stop → Type 0
+StopsList gives line asked (Unread name failure) = StopsUnread gives line name.now failure
+StopsList gives line asked (Refuses refused) = StopsRefused gives line asked refused

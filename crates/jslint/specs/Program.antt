@@ -18,7 +18,7 @@ use Rattle.command_line.specs.declared.unread.ReadFailure.TheVariants.{Twice}
 use Rattle.shipped_rules.specs.ShippedRules.{RunsByRules}
 use Rattle.commands.specs.Refusal.{WritesLine, refusal_line, status_of}
 use Rattle.commands.specs.Refused.{at_no_place}
-use Rattle.commands.specs.declared.language_choice.LanguageChoice.{LanguageChoice}
+use Rattle.commands.specs.declared.asked_language.AskedLanguage.{AskedLanguage}
 use Rattle.commands.specs.declared.refused.Refused.{Refused}
 use Rattle.commands.specs.Refused.{no_memory}
 use Rattle.commands.specs.declared.command.Command.{Command}
@@ -35,8 +35,8 @@ abbrev pub no_file : Refused
 no_file = at_no_place ReadFailed
 
 -- a run of a line's command in a language, by what its two readers have to give and what its writer took, and which of them has failed
-abbrev pub RunsOver : Line → LanguageChoice → (given second before after : Option (List ℕ)) → (reader_failed second_failed writer_failed : Bool) → Result ℕ Refused → Type 0
-RunsOver line choice given second before after reader_failed second_failed writer_failed result = RunsByRules line.command choice (record {
+abbrev pub RunsOver : Line → AskedLanguage → (given second before after : Option (List ℕ)) → (reader_failed second_failed writer_failed : Bool) → Result ℕ Refused → Type 0
+RunsOver line asked given second before after reader_failed second_failed writer_failed result = RunsByRules line.command asked (record {
   given = given;
   second = second;
   before = before;
@@ -48,7 +48,7 @@ RunsOver line choice given second before after reader_failed second_failed write
 
 -- A run over the files of a line, which were opened, by what the writer took before and after, and whether it has failed. What was read is
 -- what there is to read under their names; a second file that isn't named is empty, and doesn't fail.
-pub record RunsOpened (gives : Contents) (line : Line) (choice : LanguageChoice) (before after : Option (List ℕ)) (failed : Bool) (result : Result ℕ Refused) : Type 0 where
+pub record RunsOpened (gives : Contents) (line : Line) (asked : AskedLanguage) (before after : Option (List ℕ)) (failed : Bool) (result : Result ℕ Refused) : Type 0 where
   pub given : Option (List ℕ)
   pub second : Option (List ℕ)
   pub reader_failed : Bool
@@ -56,7 +56,7 @@ pub record RunsOpened (gives : Contents) (line : Line) (choice : LanguageChoice)
   pub is_given : gives line.file.now (Ok given)
   pub is_second : IfSome (second_name line) (λ name. gives name (Ok second))
   pub unnamed : line.second ≡ None → (second ≡ Some []) × (second_failed ≡ false)
-  pub runs : RunsOver line choice given second before after reader_failed second_failed failed result
+  pub runs : RunsOver line asked given second before after reader_failed second_failed failed result
 
 -- a file that can't be opened is one of the line, its opening failed, and nothing was written
 abbrev pub IsUnopened : Contents → Line → Option (List ℕ) → Option (List ℕ) → Bool → Text → ReadFailure → Type 0
@@ -69,16 +69,16 @@ IsOfFailed line reader_failed second_failed name =
     ((reader_failed ≡ true) × (name ≡ line.file.now)) ⊎ ((second_failed ≡ true) × (second_name line ≡ Some name))
 
 -- a run over opened files was refused since one failed, and that is the file of this name
-abbrev pub IsUnread : Contents → Line → LanguageChoice → Option (List ℕ) → Option (List ℕ) → Bool → Text → ReadFailure → Type 0
-IsUnread gives line choice before after failed name failure =
-    (run : RunsOpened gives line choice before after failed (Err no_file)) × IsOfFailed line run.reader_failed run.second_failed name × IsOfOpened failure
+abbrev pub IsUnread : Contents → Line → AskedLanguage → Option (List ℕ) → Option (List ℕ) → Bool → Text → ReadFailure → Type 0
+IsUnread gives line asked before after failed name failure =
+    (run : RunsOpened gives line asked before after failed (Err no_file)) × IsOfFailed line run.reader_failed run.second_failed name × IsOfOpened failure
 
 -- A run over the files of a line: its status; or its refusal; or the name of the file that can't be opened or read, for which there is no
 -- other refusal.
-abbrev pub RunsOnce : Contents → Line → LanguageChoice → Option (List ℕ) → Option (List ℕ) → Bool → Result ℕ Stop → Type 0
-RunsOnce gives line choice before after failed (Ok status) = RunsOpened gives line choice before after failed (Ok status)
-RunsOnce gives line choice before after failed (Err (Refuses refused)) = (refused.fault ≢ ReadFailed) × RunsOpened gives line choice before after failed (Err refused)
-RunsOnce gives line choice before after failed (Err (Unread name failure)) = IsUnopened gives line before after failed name.now failure ⊎ IsUnread gives line choice before after failed name.now failure
+abbrev pub RunsOnce : Contents → Line → AskedLanguage → Option (List ℕ) → Option (List ℕ) → Bool → Result ℕ Stop → Type 0
+RunsOnce gives line asked before after failed (Ok status) = RunsOpened gives line asked before after failed (Ok status)
+RunsOnce gives line asked before after failed (Err (Refuses refused)) = (refused.fault ≢ ReadFailed) × RunsOpened gives line asked before after failed (Err refused)
+RunsOnce gives line asked before after failed (Err (Unread name failure)) = IsUnopened gives line before after failed name.now failure ⊎ IsUnread gives line asked before after failed name.now failure
 
 -- a line whose files are both standard input is refused for that; nothing was written
 abbrev pub RefusesTwice : Line → Option (List ℕ) → Option (List ℕ) → Bool → Result ℕ Stop → Type 0
@@ -86,9 +86,9 @@ RefusesTwice line before after failed (Err (Unread name Twice)) = (failed ≡ fa
 RefusesTwice line before after failed other = ⊥
 
 -- a run over the files of a line: standard input is read once
-abbrev pub RunsOnFiles : Contents → Line → LanguageChoice → Option (List ℕ) → Option (List ℕ) → Bool → Result ℕ Stop → Type 0
-RunsOnFiles gives line choice before after failed result =
-    ((is_twice line ≡ true) × RefusesTwice line before after failed result) ⊎ ((is_twice line ≡ false) × RunsOnce gives line choice before after failed result)
+abbrev pub RunsOnFiles : Contents → Line → AskedLanguage → Option (List ℕ) → Option (List ℕ) → Bool → Result ℕ Stop → Type 0
+RunsOnFiles gives line asked before after failed result =
+    ((is_twice line ≡ true) × RefusesTwice line before after failed result) ⊎ ((is_twice line ≡ false) × RunsOnce gives line asked before after failed result)
 
 -- what becomes of a refusal of a run over opened files, by the name of the file that failed, where one did
 abbrev pub StopsBy : Refused → Text → Stop → Type 0
@@ -128,38 +128,39 @@ Ends (Err (Refuses refused)) errors status = (status ≡ status_of refused.fault
 Ends (Err (Unread name failure)) errors status = (status ≡ status_of ReadFailed) × GetsLine (unread_line name.now failure) errors
 
 -- a line was run over its files
-abbrev pub RunsFiles : Contents → Line → LanguageChoice → Written → Written → ℕ → Type 0
-RunsFiles gives line choice output errors status =
-    (answer : Result ℕ Stop) × RunsOnFiles gives line choice output.before output.after output.failed answer × Ends answer errors status
+abbrev pub RunsFiles : Contents → Line → AskedLanguage → Written → Written → ℕ → Type 0
+RunsFiles gives line asked output errors status =
+    (answer : Result ℕ Stop) × RunsOnFiles gives line asked output.before output.after output.failed answer × Ends answer errors status
 
 -- what is seen of a writer that hadn't failed before
 abbrev pub seen_of : Written → Seen
 seen_of writer = record { before = writer.before; after = writer.after; had_failed = false; failed = writer.failed }
 
 -- each file that a list names was told of, or it was said that memory was refused for their places
-abbrev pub TellsNames : Contents → Command → LanguageChoice → (settings list : List ℕ) → Written → Written → ℕ → Type 0
-TellsNames gives command choice settings list output errors status =
-    TellsEach (TellsFile gives command choice settings) (names_of list) (seen_of output) (seen_of errors) status
+abbrev pub TellsNames : Contents → Command → AskedLanguage → (settings list : List ℕ) → Written → Written → ℕ → Type 0
+TellsNames gives command asked settings list output errors status =
+    TellsEach (TellsFile gives command asked settings) (names_of list) (seen_of output) (seen_of errors) status
     ⊎ (IsKept output × Ends (Err (Refuses no_memory)) errors status)
 
 -- each file of the line's list was told of; or why none was is said, and nothing was written
-abbrev pub RunsList : Contents → Line → LanguageChoice → Written → Written → ℕ → Type 0
-RunsList gives line choice output errors status =
-    TellsListed gives line choice (seen_of output) (seen_of errors) status
-    ⊎ ((stop : Stop) × StopsList gives line choice stop × IsKept output × Ends (Err stop) errors status)
+abbrev pub RunsList : Contents → Line → AskedLanguage → Written → Written → ℕ → Type 0
+RunsList gives line asked output errors status =
+    TellsListed gives line asked (seen_of output) (seen_of errors) status
+    ⊎ ((stop : Stop) × StopsList gives line asked stop × IsKept output × Ends (Err stop) errors status)
 
 -- a line was run over its files, or over those of its list
-abbrev pub RunsInLanguage : Bool → Contents → Line → LanguageChoice → Written → Written → ℕ → Type 0
-RunsInLanguage false gives line choice output errors status = RunsFiles gives line choice output errors status
-RunsInLanguage true gives line choice output errors status = RunsList gives line choice output errors status
+abbrev pub RunsInLanguage : Bool → Contents → Line → AskedLanguage → Written → Written → ℕ → Type 0
+RunsInLanguage false gives line asked output errors status = RunsFiles gives line asked output errors status
+RunsInLanguage true gives line asked output errors status = RunsList gives line asked output errors status
 
 -- it was run in the language that it asks for, or it was said that its options ask for none
-abbrev pub RunsLineIn : Contents → Line → Result LanguageChoice OptionMistake → Written → Written → ℕ → Type 0
-RunsLineIn gives line (Ok choice) output errors status = RunsInLanguage line.is_list gives line choice output errors status
+abbrev pub RunsLineIn : Contents → Line → Result AskedLanguage OptionMistake → Written → Written → ℕ → Type 0
+RunsLineIn gives line (Ok asked) output errors status = RunsInLanguage line.is_list gives line asked output errors status
 RunsLineIn gives line (Err mistake) output errors status = IsKept output × (status ≡ 2) × GetsLine (mistake_line mistake) errors
 
 abbrev pub RunsLine : Contents → Line → Written → Written → ℕ → Type 0
-RunsLine gives line output errors status = RunsLineIn gives line (asked_of (option_map (λ s. s.now) line.commas) (option_map (λ s. s.now) line.edition) line.is_module) output errors status
+RunsLine gives line output errors status =
+    RunsLineIn gives line (asked_of (option_map (λ s. s.now) line.commas) (option_map (λ s. s.now) line.edition) line.is_module line.is_any) output errors status
 
 -- the words are a line, which was run
 abbrev pub RunsWords : Contents → List Text → Written → Written → ℕ → Type 0

@@ -6,7 +6,7 @@ ghost use Rattle.jslint.specs.Program.{IsFailure, IsNamed, IsTold, RunsOnFiles, 
 
 use crate::opened::{FileSystem, Opened, failure_behind, input_failure, is_input, open};
 use command_line::{Line, ReadFailure};
-use commands::{LanguageChoice, Refused};
+use commands::{AskedLanguage, Refused};
 use shipped_rules::run_with_rules;
 use source_text::{Device, DeviceFault, Fault, Feed, Sink};
 use std::rt::Files;
@@ -56,7 +56,7 @@ pub(crate) fn stop_of<'a, R: Files>(rt: &R, refused: Refused, unread: &'a str) -
 fn run_alone<'a, R: FileSystem + AllocGlobal, W: Sink>(
     rt: &R,
     line: Line<'a>,
-    choice: LanguageChoice,
+    asked: AskedLanguage,
     file: &mut Opened<Device<R::File>, Device<R::Reader>>,
     output: &mut W,
 ) -> Result<u8, Stop<'a>>
@@ -65,9 +65,9 @@ fn run_alone<'a, R: FileSystem + AllocGlobal, W: Sink>(
     requires reads { ⟦<Opened<Device<R::File>, Device<R::Reader>> as Feed>⟧.failed file.old ≡ false }
     requires writes { W.failed output.old ≡ false }
     ensures told { IfErr result (λ stop. IsTold stop) }
-    ensures answer { RunsOnce (Gives (R.opens rt.now) (R.reads rt.now) R.File.remaining R.Reader.remaining) line.entry choice (W.taken output.old) (W.taken output.new) (W.failed output.new) result }
+    ensures answer { RunsOnce (Gives (R.opens rt.now) (R.reads rt.now) R.File.remaining R.Reader.remaining) line.entry asked (W.taken output.old) (W.taken output.new) (W.failed output.new) result }
 {
-    match run_with_rules(rt.alloc(), line.command, choice, file, &mut NoFile, output) {
+    match run_with_rules(rt.alloc(), line.command, asked, file, &mut NoFile, output) {
         Ok(status) => Ok(status),
         Err(refused) => Err(stop_of(rt, refused, line.file)),
     }
@@ -77,7 +77,7 @@ fn run_alone<'a, R: FileSystem + AllocGlobal, W: Sink>(
 fn run_both<'a, R: FileSystem + AllocGlobal, W: Sink>(
     rt: &R,
     line: Line<'a>,
-    choice: LanguageChoice,
+    asked: AskedLanguage,
     file: &mut Opened<Device<R::File>, Device<R::Reader>>,
     name: &'a str,
     output: &mut W,
@@ -87,13 +87,13 @@ fn run_both<'a, R: FileSystem + AllocGlobal, W: Sink>(
     requires reads { ⟦<Opened<Device<R::File>, Device<R::Reader>> as Feed>⟧.failed file.old ≡ false }
     requires writes { W.failed output.old ≡ false }
     ensures told { IfErr result (λ stop. IsTold stop) }
-    ensures answer { RunsOnce (Gives (R.opens rt.now) (R.reads rt.now) R.File.remaining R.Reader.remaining) line.entry choice (W.taken output.old) (W.taken output.new) (W.failed output.new) result }
+    ensures answer { RunsOnce (Gives (R.opens rt.now) (R.reads rt.now) R.File.remaining R.Reader.remaining) line.entry asked (W.taken output.old) (W.taken output.new) (W.failed output.new) result }
 {
     let mut second = match open(rt, name) {
         Ok(second) => second,
         Err(failure) => return Err(Stop::Unread(name, failure)),
     };
-    match run_with_rules(rt.alloc(), line.command, choice, file, &mut second, output) {
+    match run_with_rules(rt.alloc(), line.command, asked, file, &mut second, output) {
         Ok(status) => Ok(status),
         Err(refused) => {
             let unread = if Feed::has_failed(&second) {
@@ -142,12 +142,12 @@ pub(crate) fn unread_input<'a, R: FileSystem>(
 fn run_once<'a, R: FileSystem + AllocGlobal, W: Sink>(
     rt: &R,
     line: Line<'a>,
-    choice: LanguageChoice,
+    asked: AskedLanguage,
     output: &mut W,
 ) -> Result<u8, Stop<'a>>
     requires { W.failed output.old ≡ false }
     ensures told { IfErr result (λ stop. IsTold stop) }
-    ensures answer { RunsOnce (Gives (R.opens rt.now) (R.reads rt.now) R.File.remaining R.Reader.remaining) line.entry choice (W.taken output.old) (W.taken output.new) (W.failed output.new) result }
+    ensures answer { RunsOnce (Gives (R.opens rt.now) (R.reads rt.now) R.File.remaining R.Reader.remaining) line.entry asked (W.taken output.old) (W.taken output.new) (W.failed output.new) result }
 {
     if let Some((name, failure)) = unread_input(rt, line) {
         return Err(Stop::Unread(name, failure));
@@ -157,8 +157,8 @@ fn run_once<'a, R: FileSystem + AllocGlobal, W: Sink>(
         Err(failure) => return Err(Stop::Unread(line.file, failure)),
     };
     match line.second {
-        Some(name) => run_both(rt, line, choice, &mut file, name, output),
-        None => run_alone(rt, line, choice, &mut file, output),
+        Some(name) => run_both(rt, line, asked, &mut file, name, output),
+        None => run_alone(rt, line, asked, &mut file, output),
     }
 }
 
@@ -176,15 +176,15 @@ pub(crate) fn is_twice(line: Line<'_>) -> bool
 pub(crate) fn open_and_run<'a, R: FileSystem + AllocGlobal, W: Sink>(
     rt: &R,
     line: Line<'a>,
-    choice: LanguageChoice,
+    asked: AskedLanguage,
     output: &mut W,
 ) -> Result<u8, Stop<'a>>
     requires { W.failed output.old ≡ false }
     ensures told { IfErr result (λ stop. IsTold stop) }
-    ensures answer { RunsOnFiles (Gives (R.opens rt.now) (R.reads rt.now) R.File.remaining R.Reader.remaining) line.entry choice (W.taken output.old) (W.taken output.new) (W.failed output.new) result }
+    ensures answer { RunsOnFiles (Gives (R.opens rt.now) (R.reads rt.now) R.File.remaining R.Reader.remaining) line.entry asked (W.taken output.old) (W.taken output.new) (W.failed output.new) result }
 {
     if is_twice(line) {
         return Err(Stop::Unread(line.file, ReadFailure::Twice));
     }
-    run_once(rt, line, choice, output)
+    run_once(rt, line, asked, output)
 }

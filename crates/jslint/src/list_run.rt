@@ -13,7 +13,7 @@ ghost use Rattle.jslint.specs.Program.{Ends, IsTold, RunsList, TellsNames, writt
 use crate::files::{Stop, is_twice, stop_of, unread_input};
 use crate::opened::{FileSystem, Opened, is_input, open};
 use command_line::{Line, ReadFailure, explain_unread, shown_bytes, shown_name};
-use commands::{Command, LanguageChoice, Refused, read_up_to, write_refusal};
+use commands::{AskedLanguage, Command, Refused, read_up_to, write_refusal};
 use embedding::run_on_bytes;
 use many_files::{Teller, names_in, tell_bytes, tell_each};
 use named_answers::{Telling, answered, refused, unread};
@@ -29,7 +29,7 @@ const NO_MEMORY: &[u8] = b"jslint: out of memory\n";
 struct FileTeller<'a, R> {
     rt: &'a R,
     command: Command,
-    choice: LanguageChoice,
+    asked: AskedLanguage,
     settings: &'a [u8],
 }
 
@@ -87,25 +87,18 @@ impl<'a, R: FileSystem + AllocGlobal> FileTeller<'a, R> {
     /// What is told of a file, by its name and what that is shown as.
     fn telling_shown(&self, name: &str, shown: &[u8]) -> Result<Telling, AllocError>
         requires { shown.now ≡ escaped_name name.now }
-        ensures { IfOk result (λ telling. IsTelling (Gives (R.opens self.now.rt.now) (R.reads self.now.rt.now) R.File.remaining R.Reader.remaining) self.now.command self.now.choice self.now.settings.now name.now telling) }
+        ensures { IfOk result (λ telling. IsTelling (Gives (R.opens self.now.rt.now) (R.reads self.now.rt.now) R.File.remaining R.Reader.remaining) self.now.command self.now.asked self.now.settings.now name.now telling) }
     {
         let alloc = self.rt.alloc();
         match bytes_under(self.rt, name) {
-            Ok(text) => answered(
-                alloc,
-                self.command,
-                self.choice,
-                shown,
-                &text,
-                self.settings,
-            ),
+            Ok(text) => answered(alloc, self.command, self.asked, shown, &text, self.settings),
             Err(stop) => telling_of_stop(alloc, shown, stop),
         }
     }
 
     /// What is told of a file by its name: standard input is none.
     fn telling_of(&self, name: &str) -> Result<Telling, AllocError>
-        ensures { IfOk result (λ telling. IsTelling (Gives (R.opens self.now.rt.now) (R.reads self.now.rt.now) R.File.remaining R.Reader.remaining) self.now.command self.now.choice self.now.settings.now name.now telling) }
+        ensures { IfOk result (λ telling. IsTelling (Gives (R.opens self.now.rt.now) (R.reads self.now.rt.now) R.File.remaining R.Reader.remaining) self.now.command self.now.asked self.now.settings.now name.now telling) }
     {
         let shown = shown_name(self.rt.alloc(), name)?;
         if is_input(name) {
@@ -116,7 +109,7 @@ impl<'a, R: FileSystem + AllocGlobal> FileTeller<'a, R> {
 
     /// What is told of a file by the bytes of its name.
     fn telling(&self, name: &[u8]) -> Result<Telling, AllocError>
-        ensures { IfOk result (λ telling. IsTelling (Gives (R.opens self.now.rt.now) (R.reads self.now.rt.now) R.File.remaining R.Reader.remaining) self.now.command self.now.choice self.now.settings.now name.now telling) }
+        ensures { IfOk result (λ telling. IsTelling (Gives (R.opens self.now.rt.now) (R.reads self.now.rt.now) R.File.remaining R.Reader.remaining) self.now.command self.now.asked self.now.settings.now name.now telling) }
     {
         match from_utf8(name) {
             Ok(name) => self.telling_of(name),
@@ -129,7 +122,7 @@ impl<'a, R: FileSystem + AllocGlobal, O: Sink, E: Sink> Teller<O, E> for FileTel
     ghost use Rattle.jslint.specs.ListRun.{TellsFile};
     ghost use Rattle.jslint.specs.Opened.{Gives};
 
-    ghost alone = { λ t. TellsFile (Gives (R.opens t.rt.now) (R.reads t.rt.now) R.File.remaining R.Reader.remaining) t.command t.choice t.settings.now };
+    ghost alone = { λ t. TellsFile (Gives (R.opens t.rt.now) (R.reads t.rt.now) R.File.remaining R.Reader.remaining) t.command t.asked t.settings.now };
 
     /// Opens the file, runs the command over it, and writes what it answers, or why it has no answer, with the name in each line.
     fn tell(&self, name: &[u8], output: &mut O, errors: &mut E) -> u8 {
@@ -168,7 +161,7 @@ fn settings_of<'a, R: FileSystem + AllocGlobal>(rt: &R, line: Line<'a>) -> Resul
 /// The list of a line, unless it is too long.
 fn names_of<'a, R: FileSystem + AllocGlobal>(rt: &R, line: Line<'a>) -> Result<Vec<u8>, Stop<'a>>
     ensures held { IfOk result (λ names. Holds (Gives (R.opens rt.now) (R.reads rt.now) R.File.remaining R.Reader.remaining) line.entry.file.now names.items) }
-    ensures stopped { (choice : _) → IfErr result (λ stop. StopsList (Gives (R.opens rt.now) (R.reads rt.now) R.File.remaining R.Reader.remaining) line.entry choice stop) }
+    ensures stopped { (asked : _) → IfErr result (λ stop. StopsList (Gives (R.opens rt.now) (R.reads rt.now) R.File.remaining R.Reader.remaining) line.entry asked stop) }
     ensures told { IfErr result (λ stop. IsTold stop) }
 {
     let names = match bytes_under(rt, line.file) {
@@ -189,13 +182,13 @@ fn names_of<'a, R: FileSystem + AllocGlobal>(rt: &R, line: Line<'a>) -> Result<V
 fn try_settings(
     alloc: Global,
     command: Command,
-    choice: LanguageChoice,
+    asked: AskedLanguage,
     settings: &[u8],
 ) -> Result<(), Refused>
     ensures told { IfErr result (λ refused. refused.fault ≢ Usage) }
-    ensures refused { IfErr result (λ refused. AnswersBytes command choice [] settings.now (Err refused)) }
+    ensures refused { IfErr result (λ refused. AnswersBytes command asked [] settings.now (Err refused)) }
 {
-    match run_on_bytes(alloc, command, choice, &[], settings) {
+    match run_on_bytes(alloc, command, asked, &[], settings) {
         Ok(_) => Ok(()),
         Err(refused) => Err(refused),
     }
@@ -205,17 +198,17 @@ fn try_settings(
 fn read_listed<'a, R: FileSystem + AllocGlobal>(
     rt: &R,
     line: Line<'a>,
-    choice: LanguageChoice,
+    asked: AskedLanguage,
 ) -> Result<ListTexts, Stop<'a>>
     ensures held { IfOk result (λ l. Holds (Gives (R.opens rt.now) (R.reads rt.now) R.File.remaining R.Reader.remaining) line.entry.file.now l.names.items × HasSettings (Gives (R.opens rt.now) (R.reads rt.now) R.File.remaining R.Reader.remaining) line.entry l.settings.items) }
-    ensures stopped { IfErr result (λ stop. StopsList (Gives (R.opens rt.now) (R.reads rt.now) R.File.remaining R.Reader.remaining) line.entry choice stop) }
+    ensures stopped { IfErr result (λ stop. StopsList (Gives (R.opens rt.now) (R.reads rt.now) R.File.remaining R.Reader.remaining) line.entry asked stop) }
     ensures told { IfErr result (λ stop. IsTold stop) }
 {
     let settings = match settings_of(rt, line) {
         Ok(settings) => settings,
         Err(stop) => return Err(stop),
     };
-    if let Err(refused) = try_settings(rt.alloc(), line.command, choice, &settings) {
+    if let Err(refused) = try_settings(rt.alloc(), line.command, asked, &settings) {
         return Err(Stop::Refuses(refused));
     }
     match names_of(rt, line) {
@@ -228,10 +221,10 @@ fn read_listed<'a, R: FileSystem + AllocGlobal>(
 fn listed<'a, R: FileSystem + AllocGlobal>(
     rt: &R,
     line: Line<'a>,
-    choice: LanguageChoice,
+    asked: AskedLanguage,
 ) -> Result<ListTexts, Stop<'a>>
     ensures held { IfOk result (λ l. Holds (Gives (R.opens rt.now) (R.reads rt.now) R.File.remaining R.Reader.remaining) line.entry.file.now l.names.items × HasSettings (Gives (R.opens rt.now) (R.reads rt.now) R.File.remaining R.Reader.remaining) line.entry l.settings.items) }
-    ensures stopped { IfErr result (λ stop. StopsList (Gives (R.opens rt.now) (R.reads rt.now) R.File.remaining R.Reader.remaining) line.entry choice stop) }
+    ensures stopped { IfErr result (λ stop. StopsList (Gives (R.opens rt.now) (R.reads rt.now) R.File.remaining R.Reader.remaining) line.entry asked stop) }
     ensures told { IfErr result (λ stop. IsTold stop) }
 {
     if is_twice(line) {
@@ -240,7 +233,7 @@ fn listed<'a, R: FileSystem + AllocGlobal>(
     if let Some((name, failure)) = unread_input(rt, line) {
         return Err(Stop::Unread(name, failure));
     }
-    read_listed(rt, line, choice)
+    read_listed(rt, line, asked)
 }
 
 /// Tells of each file of a list, or that memory was refused for the places of their names.
@@ -252,7 +245,7 @@ fn tell_listed<R: FileSystem + AllocGlobal, O: Sink, W: Sink>(
 ) -> u8
     requires writes { O.failed output.old ≡ false }
     requires tells { W.failed errors.old ≡ false }
-    ensures { TellsNames (Gives (R.opens teller.now.rt.now) (R.reads teller.now.rt.now) R.File.remaining R.Reader.remaining) teller.now.command teller.now.choice teller.now.settings.now list.now (written O.taken O.failed output.old output.new) (written W.taken W.failed errors.old errors.new) result }
+    ensures { TellsNames (Gives (R.opens teller.now.rt.now) (R.reads teller.now.rt.now) R.File.remaining R.Reader.remaining) teller.now.command teller.now.asked teller.now.settings.now list.now (written O.taken O.failed output.old output.new) (written W.taken W.failed errors.old errors.new) result }
 {
     match names_in(teller.rt.alloc(), list) {
         Ok(names) => tell_each(teller, &names, output, errors),
@@ -276,20 +269,20 @@ fn say_stop<W: Sink>(stop: Stop, errors: &mut W) -> u8
 pub(crate) fn run_list<R: FileSystem + AllocGlobal, O: Sink, W: Sink>(
     rt: &R,
     line: Line,
-    choice: LanguageChoice,
+    asked: AskedLanguage,
     output: &mut O,
     errors: &mut W,
 ) -> u8
     requires writes { O.failed output.old ≡ false }
     requires tells { W.failed errors.old ≡ false }
-    ensures { RunsList (Gives (R.opens rt.now) (R.reads rt.now) R.File.remaining R.Reader.remaining) line.entry choice (written O.taken O.failed output.old output.new) (written W.taken W.failed errors.old errors.new) result }
+    ensures { RunsList (Gives (R.opens rt.now) (R.reads rt.now) R.File.remaining R.Reader.remaining) line.entry asked (written O.taken O.failed output.old output.new) (written W.taken W.failed errors.old errors.new) result }
 {
-    match listed(rt, line, choice) {
+    match listed(rt, line, asked) {
         Ok(listed) => {
             let teller = FileTeller {
                 rt,
                 command: line.command,
-                choice,
+                asked,
                 settings: &listed.settings,
             };
             tell_listed(&teller, &listed.names, output, errors)

@@ -16,7 +16,7 @@ ghost use Rattle.jslint.specs.Opened.{Gives};
 ghost use Rattle.jslint.specs.Program.{Answers, NoWordsSaid, Obeys, RunsFiles, RunsInLanguage, RunsLine, written};
 
 use command_line::{Line, command_line, explain, explain_not_utf8, explain_option, explain_unread};
-use commands::{LanguageChoice, Refused, write_refusal};
+use commands::{AskedLanguage, Refused, write_refusal};
 use files::{Stop, open_and_run};
 use list_run::run_list;
 use opened::FileSystem;
@@ -62,15 +62,15 @@ fn explain_no_words<W: Sink>(why: NoWords, errors: &mut W) -> u8
 fn run_files<R: FileSystem + AllocGlobal, O: Sink, W: Sink>(
     rt: &R,
     line: Line,
-    choice: LanguageChoice,
+    asked: AskedLanguage,
     output: &mut O,
     errors: &mut W,
 ) -> u8
     requires writes { O.failed output.old ≡ false }
     requires tells { W.failed errors.old ≡ false }
-    ensures { RunsFiles (Gives (R.opens rt.now) (R.reads rt.now) R.File.remaining R.Reader.remaining) line.entry choice (written O.taken O.failed output.old output.new) (written W.taken W.failed errors.old errors.new) result }
+    ensures { RunsFiles (Gives (R.opens rt.now) (R.reads rt.now) R.File.remaining R.Reader.remaining) line.entry asked (written O.taken O.failed output.old output.new) (written W.taken W.failed errors.old errors.new) result }
 {
-    match open_and_run(rt, line, choice, output) {
+    match open_and_run(rt, line, asked, output) {
         Ok(status) => status,
         Err(Stop::Unread(name, failure)) => explain_unread(name, failure, errors),
         Err(Stop::Refuses(refused)) => write_refusal(&refused, errors),
@@ -81,18 +81,18 @@ fn run_files<R: FileSystem + AllocGlobal, O: Sink, W: Sink>(
 fn run_in_language<R: FileSystem + AllocGlobal, O: Sink, W: Sink>(
     rt: &R,
     line: Line,
-    choice: LanguageChoice,
+    asked: AskedLanguage,
     output: &mut O,
     errors: &mut W,
 ) -> u8
     requires writes { O.failed output.old ≡ false }
     requires tells { W.failed errors.old ≡ false }
-    ensures { RunsInLanguage line.entry.is_list (Gives (R.opens rt.now) (R.reads rt.now) R.File.remaining R.Reader.remaining) line.entry choice (written O.taken O.failed output.old output.new) (written W.taken W.failed errors.old errors.new) result }
+    ensures { RunsInLanguage line.entry.is_list (Gives (R.opens rt.now) (R.reads rt.now) R.File.remaining R.Reader.remaining) line.entry asked (written O.taken O.failed output.old output.new) (written W.taken W.failed errors.old errors.new) result }
 {
     if line.is_list {
-        return run_list(rt, line, choice, output, errors);
+        return run_list(rt, line, asked, output, errors);
     }
-    run_files(rt, line, choice, output, errors)
+    run_files(rt, line, asked, output, errors)
 }
 
 /// Runs a line in the language that it asks for, and says why where it asks for none. Answers the exit status.
@@ -107,7 +107,7 @@ fn run_line<R: FileSystem + AllocGlobal, O: Sink, W: Sink>(
     ensures { RunsLine (Gives (R.opens rt.now) (R.reads rt.now) R.File.remaining R.Reader.remaining) line.entry (written O.taken O.failed output.old output.new) (written W.taken W.failed errors.old errors.new) result }
 {
     match line.language() {
-        Ok(choice) => run_in_language(rt, line, choice, output, errors),
+        Ok(asked) => run_in_language(rt, line, asked, output, errors),
         Err(mistake) => explain_option(mistake, errors),
     }
 }

@@ -3,7 +3,7 @@ ghost use Rattle.std.specs.Prelude.{◌≡◌, IfOk, false};
 use super::files::{Stop, open_and_run};
 use super::run_arguments;
 use command_line::{Line, ReadFailure};
-use commands::{Command, LanguageChoice, ReportForm};
+use commands::{AskedLanguage, Command, LanguageChoice, ReportForm};
 use source_text::{FailurePlan, MemorySink};
 use std::alloc::{AllocError, Global};
 use std::test::Fail;
@@ -83,10 +83,16 @@ fn files_that_cannot_be_read(rt: HostRuntime) -> Result<(), Fail> {
             second,
             edition: None,
             is_module: false,
+            is_any: false,
             is_list: false,
             commas: None,
         };
-        let got = open_and_run(&rt, line, LanguageChoice::Unsaid, &mut output);
+        let got = open_and_run(
+            &rt,
+            line,
+            AskedLanguage::Said(LanguageChoice::Unsaid),
+            &mut output,
+        );
         assert_eq!(rt; got, Err(Stop::Unread(unread, failure)), "{line:?}");
         assert!(rt; output.bytes().is_empty(), "{line:?}");
     }

@@ -60,6 +60,17 @@ impl Columns {
     fn with(self, item: Item<'_>) -> Columns
         ensures { AreFew self → result ≡ with_item item.entry self }
     {
+        match item {
+            Item::Piece { columns, .. } => self.with_piece(columns as usize),
+            Item::IndentStart | Item::IndentEnd | Item::HangStart | Item::HangEnd => self,
+            _ => self.with_any(item),
+        }
+    }
+
+    /// The same; the most frequent items are counted in a shorter way.
+    fn with_any(self, item: Item<'_>) -> Columns
+        ensures { AreFew self → result ≡ with_item item.entry self }
+    {
         Columns {
             flat: self.flat.saturating_add(item.flat_columns()),
             forced: self.forced.saturating_add(one_if(item.must_end_a_line())),
@@ -75,6 +86,19 @@ impl Columns {
                 item.ends_a_joined_line(),
                 self.firm_to_end,
             ),
+        }
+    }
+
+    /// With a piece more before them, of one line.
+    fn with_piece(self, columns: usize) -> Columns
+        ensures { AreFew self → columns ≤ 2 ^ 48 → result ≡ record self { flat = self.flat + columns; to_break = columns + self.to_break; to_end = columns + self.to_end; firm_to_end = columns + self.firm_to_end } }
+    {
+        Columns {
+            flat: self.flat.saturating_add(columns),
+            to_break: columns.saturating_add(self.to_break),
+            to_end: columns.saturating_add(self.to_end),
+            firm_to_end: columns.saturating_add(self.firm_to_end),
+            ..self
         }
     }
 
@@ -248,14 +272,14 @@ impl Tail {
         Tail { last_cut, ..self }
     }
 
-    /// With an item that is no start and no end of a group, by what stands behind it.
-    fn with(self, item: Item<'_>, columns: Columns) -> Tail
-        ensures { result ≡ with_noted item.entry columns self }
+    /// Notes an item that is no start and no end of a group, by what stands behind it.
+    fn note(&mut self, item: Item<'_>, columns: Columns)
+        ensures { self.new ≡ with_noted item.entry columns self.old }
     {
         match item {
-            Item::HeadEnd => self.with_head(columns),
-            Item::CutLine | Item::CutSoftLine => self.with_cut(columns),
-            _ => self,
+            Item::HeadEnd => *self = self.with_head(columns),
+            Item::CutLine | Item::CutSoftLine => *self = self.with_cut(columns),
+            _ => {}
         }
     }
 
@@ -399,7 +423,7 @@ impl Measures {
     fn pass_other(&mut self, item: Item<'_>)
         ensures { (is : List Item) → sizes is ≤ 2 ^ 48 → is_outside item.entry ≡ true → HasPassed self.old is → HasPassed self.new (item.entry ∷ is) }
     {
-        self.innermost = self.innermost.with(item, self.columns);
+        self.innermost.note(item, self.columns);
         self.columns = self.columns.with(item);
     }
 

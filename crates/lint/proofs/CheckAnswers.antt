@@ -17,7 +17,8 @@ use Rattle.language.specs.Pieces.{script}
 use Rattle.source_text.specs.Source.{max_bytes}
 use Rattle.source_text.specs.declared.fault.Fault.{Fault}
 use Rattle.source_text.specs.declared.fault.Fault.TheVariants.{OutOfMemory, BadSettings, ReadFailed}
-use Rattle.commands.specs.declared.command.Command.TheVariants.{Check}
+use Rattle.commands.specs.declared.command.Command.{Command}
+use Rattle.commands.specs.declared.command.Command.TheVariants.{Check, Mend}
 use Rattle.commands.specs.declared.command.ReportForm.{ReportForm}
 use Rattle.commands.specs.declared.command.ReportForm.TheVariants.{Places, Spans}
 use Rattle.commands.specs.declared.refused.Refused.{Refused}
@@ -40,12 +41,14 @@ use Rattle.commands.specs.declared.language_choice.LanguageChoice.{LanguageChoic
 use Rattle.lint.specs.declared.check_command.Checked.{Checked}
 use Rattle.lint.specs.Languages.{asked_language, language_of}
 use Rattle.lint.specs.Asked.{HasExtra, HasScopes}
-use Rattle.lint.specs.Outputs.{Checks, IsExtra, IsOutput, IsSecond, Reports}
+use Rattle.lint.specs.Mendings.{Mended}
+use Rattle.lint.specs.Reported.{IsExtra, Reports}
+use Rattle.lint.specs.Outputs.{Checks, HasSettings, IsLanguage, IsLeft, IsOutput, IsSecond}
 use Rattle.lint.specs.ReadScripts.{IsReading, RefusesReading}
 use Rattle.lint.specs.Hints.{IsHint}
 use Rattle.lint.specs.Run.{IsSource, Refuses, Seen}
 use Rattle.lint.specs.Steps.{AnswersBytes, IsBefore, LacksLanguage, LacksSettings, ReadsLanguage, ReadsSettings, RefusesChecked, RefusesSettingsBy, ReportsLines, output_of, status_of}
-use Rattle.lint.proofs.RunAnswers.{none_failed, script_read, script_refused}
+use Rattle.lint.proofs.RunAnswers.{none_failed, script_read, script_refused, settled_second}
 
 -- the pairs that are extra by the wrapped nodes are all of the derivation but the innermost of each wrapped node
 pub are_extra : (language : Language) (text : List ℕ) (n : Tree) (P : List Pair) (wraps : List Bool) (spans : List Span) → IsUtf8 text → AreWraps n wraps
@@ -110,7 +113,7 @@ checked finds form language text n P second output settings answer utf8 are line
   is_status = lines.is_status;
 }
 
-outputs : (finds : View → List Report) (form : ReportForm) (language : Language) (text : List ℕ) (n : Tree) (P : List Pair) (second : List ℕ) (settings : Settings) (answer : Answer) → IsUtf8 second
+pub outputs : (finds : View → List Report) (form : ReportForm) (language : Language) (text : List ℕ) (n : Tree) (P : List Pair) (second : List ℕ) (settings : Settings) (answer : Answer) → IsUtf8 second
     → settings_of_text second ≡ Some settings → ReportsLines finds form language text n P settings answer → IsOutput finds language (Check form) text n P second (output_of answer) (status_of answer)
 unfolding checked
 outputs finds Places language text n P second settings answer utf8 are lines = checked finds Places language text n P second (output_of answer) settings answer utf8 are lines lines.are_lines
@@ -135,13 +138,36 @@ check_answers finds form choice text n P second checked answer failed source rea
   },
 )
 
+-- what `mend` answers
+pub mend_answers : (finds : View → List Report) (choice : LanguageChoice) (text : List ℕ) (n : Tree) (P : List Pair) (second : Option (List ℕ)) (checked : Checked) (answer : Answer) (failed : Bool)
+    → IsSource text → IsReading checked.language text n P → ReadsLanguage choice second (Ok checked) failed → Mended finds checked.language checked.settings text (output_of answer) → status_of answer ≡ 0
+    → AnswersBytes finds Mend choice text second (Ok answer) failed
+unfolding script_read
+mend_answers finds choice text n P second checked answer failed source reading ((well, (other, is, utf8, are)), language_is) mended status = (
+  well,
+  λ given read. record {
+    language = checked.language;
+    read = record { script = script_read checked.language given text n P read source reading; second = other; is_second = is };
+    is_language = (checked.settings, are, language_is);
+    is_output = (record { settings = checked.settings; utf8 = utf8; are_settings = are; mended = mended }, status);
+  },
+)
+
+left_language : (command : Command) → HasSettings command → (choice : LanguageChoice) (second : List ℕ) (language : Language) → IsLeft choice second language → IsLanguage command choice second language
+left_language (Check form) settled choice second language is = is
+left_language Mend settled choice second language is = is
+left_language _ settled choice second language is = absurd settled
+
 -- a text that is no script in that language is refused
-pub check_unread : (finds : View → List Report) (form : ReportForm) (choice : LanguageChoice) (text : List ℕ) (second : Option (List ℕ)) (checked : Checked) (fault : Fault) (place : ℕ × ℕ) (hint : Hint) (failed : Bool) (seen : Seen)
+pub check_unread : (finds : View → List Report) (command : Command) (settled : HasSettings command) (choice : LanguageChoice) (text : List ℕ) (second : Option (List ℕ)) (checked : Checked) (fault : Fault) (place : ℕ × ℕ) (hint : Hint) (failed : Bool) (seen : Seen)
     → IsSource text → ReadsLanguage choice second (Ok checked) failed → RefusesReading checked.language text fault → place ≡ place_of text fault → IsHint checked.language text fault hint → IsBefore text second failed seen
-    → Refuses finds (Check form) choice seen fault place hint
-check_unread finds form choice text second checked fault place hint failed seen source ((well, (other, is, utf8, are)), language_is) why at hinted before =
-    script_refused finds (Check form) choice text second checked.language fault place hint failed seen source why at hinted before
-    (inl (none_failed finds (Check form) choice text second failed seen before well, (other, subst (λ o. IsSecond (Check form) o other) (sym before.of_second) is, (checked.settings, are, language_is))))
+    → Refuses finds command choice seen fault place hint
+check_unread finds command settled choice text second checked fault place hint failed seen source ((well, (other, is, utf8, are)), language_is) why at hinted before =
+    script_refused finds command choice text second checked.language fault place hint failed seen source why at hinted before
+    (inl (
+      none_failed finds command choice text second failed seen before well,
+      (other, subst (λ o. IsSecond command o other) (sym before.of_second) (settled_second command settled second other is), left_language command settled choice other checked.language (checked.settings, are, language_is)),
+    ))
 
 -- ---- the second file
 

@@ -10,7 +10,7 @@ use Rattle.lint.specs.Hints.{IsAccepted, TellsAccepted}
 use Rattle.lint.specs.ReadScripts.{RefusesReading}
 
 -- what is refused, though memory wasn't, is accepted with no tree
-refused_is_unaccepted : (language : Language) (text : List ℕ) (fault : Fault) → RefusesReading language text fault → fault ≢ OutOfMemory → IsAccepted language text → ⊥
+pub refused_is_unaccepted : (language : Language) (text : List ℕ) (fault : Fault) → RefusesReading language text fault → fault ≢ OutOfMemory → IsAccepted language text → ⊥
 refused_is_unaccepted language text (Syntax at) refused other (n, P, is) = refused.1 n P (max_open, is.derived.1)
 refused_is_unaccepted language text TooDeep refused other (n, P, is) = refused.1 n P is.derived
 refused_is_unaccepted language text (Early number at) refused other (n, P, is) = refused.1.unlawful n P (max_open, is.derived.1) is.lawful

@@ -1,6 +1,7 @@
 pub mod FixAnswers
 pub mod Unwrapping
 pub mod Formatting
+pub mod Mending
 pub mod RunAnswers
 pub mod OneScript
 pub mod VerifyAnswers
@@ -8,3 +9,5 @@ pub mod CheckAnswers
 pub mod PlannedScripts
 pub mod SameAnswers
 pub mod HintAnswers
+pub mod AnyLanguages
+pub mod AnyAnswers

@@ -8,7 +8,7 @@ use Rattle.scopes.specs.Found.{Found, found}
 use Rattle.rules.specs.Run.{look_at_pairs, look_at_scopes}
 use Rattle.rules.specs.Settings.{Settings}
 use Rattle.rules.specs.declared.rule_list.RuleName.{RuleName}
-use Rattle.lint.specs.Outputs.{IsExtra}
+use Rattle.lint.specs.Reported.{IsExtra}
 
 -- all extra pairs, or no rule looks at them
 abbrev pub HasExtra : {B : Type 0} → List RuleName → List B → Settings → Tree → List Pair → List Span → Type 0

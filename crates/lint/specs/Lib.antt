@@ -3,8 +3,13 @@ pub mod ReadScripts
 pub mod Fixes
 pub mod Formats
 pub mod Unwraps
+pub mod Reported
+pub mod Mendings
 pub mod Hints
 pub mod Outputs
 pub mod Asked
 pub mod Run
 pub mod Steps
+pub mod AnyLanguage
+pub mod AnyRuns
+pub mod AnySteps

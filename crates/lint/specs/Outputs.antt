@@ -1,8 +1,7 @@
 -- What each command writes of a script, its exit status, and how it refuses one.
-use Rattle.std.specs.Prelude.{◌≡◌, ◌≤◌, ◌+◌, ℕ, zero, suc, Bool, List, [], ◌∷◌, ◌++◌, length, take, codes, Option, Some, None, IfSome, ◌⊎◌}
+use Rattle.std.specs.Prelude.{◌≡◌, ◌≤◌, ◌+◌, ℕ, zero, suc, List, [], ◌∷◌, ◌++◌, length, take, codes, Option, Some, None, IfSome, ◌⊎◌}
 use Rattle.std.specs.Fmt.{decimal}
 use Rattle.std.specs.Str.{IsUtf8}
-use Rattle.std.specs.List.Sorted.{IsPermutation, IsSorted}
 use Rattle.source_text.specs.Lines.{line_column}
 use Rattle.source_text.specs.Source.{IsRefusal, max_bytes}
 use Rattle.source_text.specs.declared.fault.Fault.{Fault}
@@ -10,29 +9,17 @@ use Rattle.source_text.specs.declared.fault.Fault.TheVariants.{NotUtf8, TooLong,
 use Rattle.source_text.specs.declared.fault.Reason.{Reason}
 use Rattle.source_text.specs.declared.fault.Reason.TheVariants as reason
 use Rattle.commands.specs.declared.command.Command.{Command}
-use Rattle.commands.specs.declared.command.Command.TheVariants.{Check, Tree, Fix, Unwrap, Format, Cost, Verify, Same}
+use Rattle.commands.specs.declared.command.Command.TheVariants.{Check, Tree, Fix, Unwrap, Mend, Format, Cost, Verify, Same}
 use Rattle.commands.specs.declared.command.ReportForm.TheVariants.{Places, Spans}
 use Rattle.tree.specs.declared.kind.Pair.{Pair}
-use Rattle.tree.specs.declared.kind.Span.{Span}
 use Rattle.tree.specs.Tree.{Tree as SyntaxTree, SameTree}
-use Rattle.tokens.specs.Reading.{any_goal}
-use Rattle.language.specs.Token.{Token}
-use Rattle.language.specs.Pieces.{script}
-use Rattle.language.specs.Grammar.{ways}
 use Rattle.language.specs.declared.Language.{Language}
-use Rattle.language.specs.Languages.{DerivesIn, Seen, beginning_in, seen_in}
-use Rattle.language.specs.Places.{NextIn}
-use Rattle.language.specs.Derivation.{Spells}
-use Rattle.language.specs.Layout.{has_number, wrapped_rows}
+use Rattle.language.specs.Languages.{DerivesIn}
 use Rattle.language.specs.Claims.{Table, Sound}
 use Rattle.estree_json.specs.Json.{json_text}
 use Rattle.cost_table.specs.Tables.{MeetsBounds}
-use Rattle.wrap_flags.specs.Flags.{is_flagged}
 use Rattle.language.specs.ExactIn.{ExactIn}
-use Rattle.paren_planner.specs.PairNodes.{pair_rows, spans_but_needed}
-use Rattle.scopes.specs.Found.{found}
 use Rattle.rules.specs.Reports.{Report}
-use Rattle.rules.specs.Order.{report_cmp}
 use Rattle.rules.specs.Refusals.{GivesNone, RefusesToml}
 use Rattle.rules.specs.Settings.{Settings}
 use Rattle.rules.specs.declared.settings_error.SettingsError.TheVariants.{NotToml}
@@ -45,31 +32,12 @@ use Rattle.commands.specs.declared.language_choice.LanguageChoice.{LanguageChoic
 use Rattle.lint.specs.Languages.{asked_language, language_of}
 use Rattle.lint.specs.ReadScripts.{IsReading}
 use Rattle.lint.specs.Fixes.{Fixes}
+use Rattle.lint.specs.Reported.{Reports}
 use Rattle.lint.specs.Unwraps.{Unwraps, IsUnwrapped, RefusesScript}
 use Rattle.lint.specs.Formats.{FormatsBy, RefusesFormat, WritesFormatted}
+use Rattle.lint.specs.Mendings.{Mended}
 
 -- ---- check
-
--- All grouping pairs of a script's derivation but the innermost of each node that the fixer wraps.
-pub record IsExtra (language : Language) (text : List ℕ) (n : SyntaxTree) (P : List Pair) (extra : List Span) : Type 0 where
-  pub wrapped : List Bool
-  pub is_wrapped : (r : ℕ) → is_flagged wrapped r ≡ has_number (wrapped_rows n script 1) r
-  pub but_needed : (o : ℕ) (last : Token) (d : Spells ways Token (Seen Token (NextIn text any_goal) language) (seen_in language) o script n (beginning_in language text) last P) → extra ≡ spans_but_needed wrapped P (pair_rows ways Token (Seen Token (NextIn text any_goal) language) (seen_in language) d 1)
-
--- What rules look at in a script: its tree, its text, its scopes, its extra pairs, and the settings.
-pub record IsView (language : Language) (text : List ℕ) (n : SyntaxTree) (P : List Pair) (settings : Settings) (view : View) : Type 0 where
-  pub of_tree : view.tree ≡ n
-  pub of_text : view.text ≡ text
-  pub of_scopes : view.found ≡ found n
-  pub of_extra : IsExtra language text n P view.extra
-  pub of_settings : view.settings ≡ settings
-
--- All that the rules find in that view, by start, rule, end and text.
-pub record Reports (finds : View → List Report) (language : Language) (text : List ℕ) (n : SyntaxTree) (P : List Pair) (settings : Settings) (reports : List Report) : Type 0 where
-  pub view : View
-  pub is_view : IsView language text n P settings view
-  pub all : IsPermutation (finds view) reports
-  pub sorted : IsSorted report_cmp reports
 
 -- A line for each report under the settings of the second file; the status says whether there is one that is no warning.
 pub record Checks (finds : View → List Report) (language : Language) (text : List ℕ) (n : SyntaxTree) (P : List Pair) (second output : List ℕ) (status : ℕ) : Type 0 where
@@ -95,6 +63,12 @@ RefusesSettingsText second place =
     ⊎ ((IsUtf8 second × ((at : ℕ) × RefusesToml second (NotToml at) × (place ≡ line_column second at)))
     ⊎ ((place ≡ (0, 0)) × (IsRefusal second TooLong ⊎ (IsUtf8 second × GivesNone second))))
 
+-- commands whose second file is settings
+abbrev pub HasSettings : Command → Type 0
+HasSettings (Check form) = Unit {0}
+HasSettings Mend = Unit {0}
+HasSettings other = ⊥
+
 -- the settings of the text leave no language that a call asks for
 abbrev pub Contradicts : LanguageChoice → List ℕ → Type 0
 Contradicts choice second = IsUtf8 second × ((settings : Settings) × (settings_of_text second ≡ Some settings) × (language_of choice settings.languages ≡ None))
@@ -103,10 +77,24 @@ Contradicts choice second = IsUtf8 second × ((settings : Settings) × (settings
 abbrev pub RefusesSettings : LanguageChoice → List ℕ → ℕ × ℕ → Type 0
 RefusesSettings choice second place = RefusesSettingsText second place ⊎ ((place ≡ (0, 0)) × Contradicts choice second)
 
--- the language of a command's script: the one that is asked for; for `check` the first that is asked for and that the settings leave
+-- the language is the first that is asked for and that the settings of the text leave
+abbrev pub IsLeft : LanguageChoice → List ℕ → Language → Type 0
+IsLeft choice second language = (settings : Settings) × (settings_of_text second ≡ Some settings) × (language_of choice settings.languages ≡ Some language)
+
+-- the language of a command's script: the one that is asked for; where the command has settings, the first that is asked for and that they leave
 abbrev pub IsLanguage : Command → LanguageChoice → List ℕ → Language → Type 0
-IsLanguage (Check form) choice second language = (settings : Settings) × (settings_of_text second ≡ Some settings) × (language_of choice settings.languages ≡ Some language)
+IsLanguage (Check form) choice second language = IsLeft choice second language
+IsLanguage Mend choice second language = IsLeft choice second language
 IsLanguage other choice second language = language ≡ asked_language choice
+
+-- ---- mend
+
+-- Mended under the settings of the second file.
+pub record MendsUnder (finds : View → List Report) (language : Language) (text second output : List ℕ) : Type 0 where
+  pub settings : Settings
+  pub utf8 : IsUtf8 second
+  pub are_settings : settings_of_text second ≡ Some settings
+  pub mended : Mended finds language settings text output
 
 -- ---- tree, cost, verify
 
@@ -160,6 +148,7 @@ pub record Compares (language : Language) (n : SyntaxTree) (second : List ℕ) (
 -- the most bytes of its second file that a command takes; none where it reads no second file
 abbrev pub second_limit : Command → Option ℕ
 second_limit (Check form) = Some max_bytes
+second_limit Mend = Some max_bytes
 second_limit Verify = Some 2147483648
 second_limit Same = Some max_bytes
 second_limit other = None
@@ -179,6 +168,7 @@ IsOutput finds language (Check Spans) text n P second output status = ChecksSpan
 IsOutput finds language Tree text n P second output status = (output ≡ tree_line n) × (status ≡ 0)
 IsOutput finds language Fix text n P second output status = Fixes language text output × (status ≡ 0)
 IsOutput finds language Unwrap text n P second output status = Unwraps language text output × IsUnwrapped language output × (status ≡ 0)
+IsOutput finds language Mend text n P second output status = MendsUnder finds language text second output × (status ≡ 0)
 IsOutput finds language (Format choice) text n P second output status =
     (formatted : List ℕ) × FormatsBy choice language text formatted × WritesFormatted choice.check text formatted output status
 IsOutput finds language Cost text n P second output status = Costs language n output × (status ≡ 0)

@@ -24,6 +24,10 @@ pub record IsReading (language : Language) (text : List ℕ) (n : Tree) (P : Lis
   pub accepted : Accepted language text n P
   pub only : IsOnly language text n P
 
+-- and it has such a tree
+abbrev pub HasReading : Language → List ℕ → Type 0
+HasReading language text = (n : Tree) × (P : List Pair) × IsReading language text n P
+
 -- the text derives no script of the language, of whatever height and nesting
 abbrev pub NoScript : Language → List ℕ → Type 0
 NoScript language text = (m : Tree) (Q : List Pair) → DerivesIn language text m Q → ⊥

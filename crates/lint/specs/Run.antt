@@ -7,8 +7,7 @@ use Rattle.source_text.specs.Writing.{AppendsBeginning}
 use Rattle.source_text.specs.declared.fault.Fault.{Fault}
 use Rattle.source_text.specs.declared.fault.Fault.TheVariants.{NotUtf8, TooLong, OutOfMemory, ReadFailed, WriteFailed, BadSettings, BadTable, UnwrapFailed, FormatFailed}
 use Rattle.commands.specs.declared.command.Command.{Command}
-use Rattle.commands.specs.declared.command.Command.TheVariants.{Check, Same}
-use Rattle.commands.specs.declared.command.ReportForm.{ReportForm}
+use Rattle.commands.specs.declared.command.Command.TheVariants.{Same}
 use Rattle.commands.specs.declared.language_choice.LanguageChoice.{LanguageChoice}
 use Rattle.commands.specs.declared.hint.Hint.{Hint}
 use Rattle.commands.specs.declared.hint.Hint.TheVariants.{Nothing}
@@ -22,7 +21,7 @@ use Rattle.rules.specs.Rules.{View}
 use Rattle.lint.specs.Languages.{asked_language}
 use Rattle.lint.specs.ReadScripts.{IsReading, RefusesReading}
 use Rattle.lint.specs.Hints.{IsHint}
-use Rattle.lint.specs.Outputs.{second_limit, IsLanguage, IsSecond, IsOutput, CommandRefuses, RefusesSettings}
+use Rattle.lint.specs.Outputs.{second_limit, HasSettings, IsLanguage, IsSecond, IsOutput, CommandRefuses, RefusesSettings}
 
 -- the bytes are source text: UTF-8, and not too long
 abbrev pub IsSource : List ℕ → Type 0
@@ -50,9 +49,9 @@ pub record Seen : Type 0 where
 abbrev pub NoneFailed : Seen → Type 0
 NoneFailed seen = (seen.reader_failed ≡ false) × (seen.second_failed ≡ false) × (seen.writer_failed ≡ false)
 
--- the second reader of `check` has failed, that of its settings, and no other device
+-- the second reader of a command with settings has failed, and no other device
 abbrev pub SettingsUnread : Command → Seen → Type 0
-SettingsUnread command seen = ((form : ReportForm) × (command ≡ Check form)) × (seen.reader_failed ≡ false) × (seen.second_failed ≡ true) × (seen.writer_failed ≡ false)
+SettingsUnread command seen = HasSettings command × (seen.reader_failed ≡ false) × (seen.second_failed ≡ true) × (seen.writer_failed ≡ false)
 
 abbrev pub NothingWritten : Seen → Type 0
 NothingWritten seen = Keeps seen.before seen.after
@@ -110,16 +109,16 @@ RefusesAfter command choice seen fault =
 -- the settings for a script are refused, at this place: it is one in the language that is asked for
 abbrev pub RefusesSettingsAfter : Command → LanguageChoice → Seen → ℕ × ℕ → Type 0
 RefusesSettingsAfter command choice seen place =
-    (read : ReadsBoth (asked_language choice) command seen.given seen.second) × ((form : ReportForm) × (command ≡ Check form)) × RefusesSettings choice read.second place
+    (read : ReadsBoth (asked_language choice) command seen.given seen.second) × HasSettings command × RefusesSettings choice read.second place
 
--- the settings of `check` were read, and are refused
+-- the settings of a command were read, and are refused
 abbrev pub SettingsRefused : Command → LanguageChoice → Seen → Type 0
 SettingsRefused command choice seen =
-    ((form : ReportForm) × (command ≡ Check form)) × NoneFailed seen
+    HasSettings command × NoneFailed seen
     × ((second : List ℕ) × IsSecond command seen.second second × ((place : ℕ × ℕ) × RefusesSettings choice second place))
 
 -- the language in which the text of the first file is read, and the devices that failed before: the command's language, and none; but the one that is asked
--- for where the settings of `check`, which are read before the text, can't be read or are refused
+-- for where settings, which are read before the text, can't be read or are refused
 abbrev pub IsTried : Command → LanguageChoice → Seen → Language → Type 0
 IsTried command choice seen language =
     (NoneFailed seen × ((second : List ℕ) × IsSecond command seen.second second × IsLanguage command choice second language))

@@ -31,7 +31,8 @@ use Rattle.lint.specs.declared.answer.Answer.TheVariants.{Text, Unchanged, Fixed
 use Rattle.lint.specs.declared.check_command.Checked.{Checked}
 use Rattle.lint.specs.Languages.{asked_language, language_of}
 use Rattle.lint.specs.ReadScripts.{IsReading, IsScript, RefusesReading}
-use Rattle.lint.specs.Outputs.{Compares, Contradicts, second_limit, IsSecond, IsOutput, CommandRefuses, RefusesSettingsText, Reports}
+use Rattle.lint.specs.Reported.{Reports}
+use Rattle.lint.specs.Outputs.{Compares, Contradicts, second_limit, IsSecond, IsOutput, CommandRefuses, RefusesSettingsText}
 use Rattle.lint.specs.Hints.{IsHint}
 use Rattle.lint.specs.Run.{Seen, NothingWritten, HasOutput, RefusesIn, RefusesText}
 
@@ -99,7 +100,7 @@ ReadsLanguage choice given (Ok checked) failed =
     ReadsSettings given (Ok checked.settings) failed × (language_of choice checked.settings.languages ≡ Some checked.language)
 ReadsLanguage choice given (Err refused) failed = LacksLanguage choice given refused failed
 
--- the refusal of `check` where there are no settings: at once that memory was refused, if it was; else that of the text, which is no script in the language
+-- the refusal of a command with settings where there are none: at once that memory was refused, if it was; else that of the text, which is no script in the language
 -- that is asked for, or that of the settings, of a script
 abbrev pub RefusesChecked : LanguageChoice → List ℕ → Refused → Refused → Type 0
 RefusesChecked choice text of_settings refused =

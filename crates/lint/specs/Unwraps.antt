@@ -31,10 +31,10 @@ pub record Unwraps (language : Language) (text unwrapped : List ℕ) : Type 0 wh
   pub kept : Keeps text tree pairs unwrapped again pairs_again
   pub untouched : length pairs ≡ length pairs_again → unwrapped ≡ text
 
--- the unwrapped text: the one that was made, or the text itself where none was
-abbrev pub unwrapped_text : {A : Type 0} → List ℕ → Option (String A) → List ℕ
-unwrapped_text text (Some made) = string_bytes made
-unwrapped_text text None = text
+-- what was made of a text, or the text itself where nothing was
+abbrev pub made_text : {A : Type 0} → List ℕ → Option (String A) → List ℕ
+made_text text (Some made) = string_bytes made
+made_text text None = text
 
 -- unwrapping the unwrapped text gives it again
 abbrev pub IsUnwrapped : Language → List ℕ → Type 0

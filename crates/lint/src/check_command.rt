@@ -8,7 +8,7 @@ ghost use Rattle.rules.specs.Run.{found_with};
 ghost use Rattle.rules.specs.Toml.{settings_of_text};
 ghost use Rattle.lint.specs.ReadScripts.{IsScript};
 ghost use Rattle.lint.specs.Asked.{HasExtra, HasScopes};
-ghost use Rattle.lint.specs.Outputs.{IsExtra, Reports};
+ghost use Rattle.lint.specs.Reported.{IsExtra, Reports};
 ghost use Rattle.lint.specs.Run.{IsSource};
 ghost use Rattle.lint.specs.Steps.{AnswersBytes, ReadsLanguage, RefusesChecked, ReadsSettings, IsWritable, RefusesSettingsBy, ReportsLines, lines_in};
 
@@ -55,7 +55,7 @@ fn settings_of(alloc: Global, bytes: &[u8]) -> Result<Settings, Refused>
 /// # Errors
 ///
 /// `BadSettings` where the text is too long, isn't UTF-8 or is refused; `ReadFailed` and `OutOfMemory`.
-fn read_settings<S: Feed>(alloc: Global, second: &mut S) -> Result<Settings, Refused>
+pub(crate) fn read_settings<S: Feed>(alloc: Global, second: &mut S) -> Result<Settings, Refused>
     requires ready { S.failed second.old ≡ false }
     ensures { ReadsSettings (S.left second.old) result (S.failed second.new) }
 {
@@ -67,9 +67,9 @@ fn read_settings<S: Feed>(alloc: Global, second: &mut S) -> Result<Settings, Ref
 
 /// What a script is checked by.
 #[derive(Drop)]
-struct Checked {
-    settings: Settings,
-    language: Language,
+pub(crate) struct Checked {
+    pub settings: Settings,
+    pub language: Language,
 }
 
 /// The settings of the second file, and the language that is asked for and that they leave.
@@ -77,7 +77,7 @@ struct Checked {
 /// # Errors
 ///
 /// Those of `read_settings`; `BadSettings` also where settings leave no language that is asked for.
-fn read_second<S: Feed>(
+pub(crate) fn read_second<S: Feed>(
     alloc: Global,
     choice: LanguageChoice,
     second: &mut S,
@@ -95,9 +95,9 @@ fn read_second<S: Feed>(
     }
 }
 
-/// The refusal of `check` where there are no settings: at once where memory was refused, since they may have said the language; else of
+/// The refusal of a command with settings where there are none: at once where memory was refused, since they may have said the language; else of
 /// the script, where it is none in the language that is asked for, or that of the settings.
-fn refusal(
+pub(crate) fn refusal(
     alloc: Global,
     choice: LanguageChoice,
     texts: &TextArena,
@@ -165,7 +165,7 @@ fn asked_scopes<'t>(
 }
 
 /// What the rules that are on report of a script, in order.
-fn reports(
+pub(crate) fn reports(
     alloc: Global,
     names: &[RuleName],
     rules: &[Box<dyn Rule>],
@@ -207,7 +207,7 @@ fn lines_of(
 }
 
 /// The lines of a script's reports in a form, and the status: 1 where there is a report that is no warning, else 0.
-fn report<'s>(
+pub(crate) fn report<'s>(
     alloc: Global,
     form: ReportForm,
     names: &[RuleName],

@@ -1,7 +1,7 @@
 //! What each command answers of a script.
 
 ghost use Rattle.std.specs.Prelude.{◌≡◌, ◌≢◌, ◌≤◌, false, length, IfOk, None, string_bytes};
-ghost use Rattle.commands.specs.declared.command.Command.TheVariants.{Check, Fix, Same, Tree, Unwrap};
+ghost use Rattle.commands.specs.declared.command.Command.TheVariants.{Check, Fix, Mend, Same, Tree, Unwrap};
 ghost use Rattle.lint.specs.ReadScripts.{IsReading, IsScript};
 ghost use Rattle.lint.specs.Outputs.{second_limit, tree_line as tree_line_of};
 ghost use Rattle.lint.specs.Steps.{Answers, AnswersAlone, IsWritable};
@@ -73,7 +73,7 @@ fn unwrapped<'s>(
     }
 }
 
-/// What a command but `check` and `same` answers of the script that a text is in a language. The second file is read by `verify` alone.
+/// What a command but `check`, `mend` and `same` answers of the script that a text is in a language. The second file is read by `verify` alone.
 ///
 /// # Errors
 ///
@@ -88,6 +88,7 @@ pub(crate) fn answer<'s, S: Feed>(
     second: &mut S,
 ) -> Result<Answer<'s>, Fault>
     requires unchecked { (form : _) → command ≢ Check form }
+    requires unmended { command ≢ Mend }
     requires other { command ≢ Same }
     requires reading { IsReading language source.now parsed.program parsed.pairs.items }
     requires small { length source.now ≤ 16777216 }
@@ -103,6 +104,6 @@ pub(crate) fn answer<'s, S: Feed>(
         Command::Format(choice) => format(alloc, source, &parsed, language, choice),
         Command::Cost => cost(alloc, parsed),
         Command::Verify => verify(alloc, &parsed, second),
-        Command::Check(_) | Command::Same => unreachable!(),
+        Command::Check(_) | Command::Mend | Command::Same => unreachable!(),
     }
 }

@@ -104,7 +104,9 @@ pub(crate) fn no_settings(source: &Source<'_>, error: SettingsError) -> Refused
 {
     match error {
         SettingsError::NotToml(at) => bad_settings_at(source.line_column(at)),
-        SettingsError::Unfit => Refused::at_no_place(Fault::BadSettings),
+        SettingsError::TooLong | SettingsError::Unfit(_) => {
+            Refused::at_no_place(Fault::BadSettings)
+        }
         SettingsError::Memory => Refused::at_no_place(Fault::OutOfMemory),
     }
 }

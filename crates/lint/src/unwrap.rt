@@ -5,7 +5,7 @@
 ghost use Rattle.std.specs.Prelude.{IfErr, IfOk, ◌≡◌, ◌≤◌, true, length, string_bytes};
 ghost use Rattle.unwrapping.specs.Readings.{IsRead};
 ghost use Rattle.lint.specs.ReadScripts.{IsReading};
-ghost use Rattle.lint.specs.Unwraps.{Unwraps, IsUnwrapped, IsUnfit, MayOutgrow, RefusesScript, RefusesUnwrapping, SpellsWith, unwrapped_text};
+ghost use Rattle.lint.specs.Unwraps.{Unwraps, IsUnwrapped, IsUnfit, MayOutgrow, RefusesScript, RefusesUnwrapping, SpellsWith, made_text};
 
 use crate::script_reader::read_script;
 use language::Language;
@@ -195,7 +195,7 @@ pub(crate) fn unwrap_unless_fewest(
 ) -> Result<Option<String>, Fault>
     requires reading { IsReading language source.now parsed.now.program parsed.now.pairs.items }
     requires small { length source.now ≤ 16777216 }
-    ensures unwrapped { IfOk result (λ made. Unwraps language source.now (unwrapped_text source.now made)) }
+    ensures unwrapped { IfOk result (λ made. Unwraps language source.now (made_text source.now made)) }
     ensures refused { IfErr result (RefusesScript source.now parsed.now.program parsed.now.pairs.items) }
 {
     let pairs = parsed.grouping_pairs();
@@ -213,12 +213,12 @@ pub(crate) fn unwrap_unless_fewest(
 }
 
 /// The text that was made, or the script's own where none was.
-fn made_or_own(
+pub(crate) fn made_or_own(
     alloc: Global,
     source: &Source<'_>,
     made: Option<String>,
 ) -> Result<String, AllocError>
-    ensures { IfOk result (λ text. string_bytes text ≡ unwrapped_text source.now made) }
+    ensures { IfOk result (λ text. string_bytes text ≡ made_text source.now made) }
 {
     if let Some(text) = made {
         return Ok(text);

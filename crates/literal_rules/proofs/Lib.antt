@@ -1,3 +1,4 @@
+mod BareNodes
 mod Passes
 mod Reading
 pub mod Together

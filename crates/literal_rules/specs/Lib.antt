@@ -5,4 +5,5 @@ pub mod Patterns
 pub mod Rows
 pub mod Marks
 pub mod Found
+pub mod Bare
 pub mod Laws

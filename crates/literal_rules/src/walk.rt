@@ -7,6 +7,7 @@ ghost use Rattle.name_tables.specs.BoundNames.{each_part};
 ghost use Rattle.name_tables.specs.PatternParts.{at_part};
 ghost use Rattle.rule_words.specs.Appends.{Grows};
 ghost use Rattle.literal_rules.specs.Found.{at_first, each, found_by_rules, has_whole_text, is_element, is_literal, is_tagged, is_template, of_element, of_literal, of_node, of_part, of_template, of_templates, of_text, place_of};
+ghost use Rattle.literal_rules.specs.Bare.{has_template, is_bare};
 
 use crate::literal_rule::{LiteralRule, begins_as, is_at_mark, is_each, words};
 use crate::mark::{first_mark, push_marks};
@@ -48,10 +49,35 @@ fn push_of_node(
     ensures found { OnOk result (out.new.items ≡ out.old.items ++ each (λ rule. of_node rule (node_tree node.entry)) rules.now) }
     ensures kept { Grows out.old.items out.new.items }
 {
+    if is_bare(node) {
+        return Ok(());
+    }
     for rule in rules {
         push_by_rule(alloc, *rule, node, out)?;
     }
     Ok(())
+}
+
+/// Whether a node has no text that a rule reads, as most have none: it is no literal, and no template stands among its parts.
+fn is_bare(node: Node) -> bool
+    ensures { result ≡ is_bare (node_tree node.entry) }
+{
+    !is_literal(node.kind()) && !has_template(node)
+}
+
+/// Whether a template stands among a node's parts.
+#[tactic(auto, using(tree::proofs::PartWalk::part_steps))]
+fn has_template(node: Node) -> bool
+    ensures { result ≡ has_template (parts_of (node_tree node.entry)) }
+{
+    for index in 0..node.part_count() {
+        if let Some(part) = node.part(index) {
+            if is_template(part.kind()) {
+                return true;
+            }
+        }
+    }
+    false
 }
 
 /// Appends what a rule reports of a node: of a literal its text, of another node its templates.

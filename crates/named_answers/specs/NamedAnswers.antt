@@ -3,7 +3,7 @@ use Rattle.std.specs.Prelude.{◌≡◌, ℕ, List, [], ◌∷◌, ◌++◌, cod
 use Rattle.commands.specs.Refusal.{refusal_line, refusal_words, status_of}
 use Rattle.commands.specs.Refused.{no_memory}
 use Rattle.commands.specs.declared.command.Command.{Command}
-use Rattle.commands.specs.declared.language_choice.LanguageChoice.{LanguageChoice}
+use Rattle.commands.specs.declared.asked_language.AskedLanguage.{AskedLanguage}
 use Rattle.commands.specs.declared.refused.Refused.{Refused}
 use Rattle.command_line.specs.Unread.{unread_line_of}
 use Rattle.command_line.specs.declared.unread.ReadFailure.{ReadFailure}
@@ -35,6 +35,6 @@ abbrev pub Tells : Telling → Told → Type 0
 Tells telling told = (telling.output.items ≡ told.output) × (telling.errors.items ≡ told.errors) × (telling.status ≡ told.status)
 
 -- it is the answer of a run over a text alone
-abbrev pub Answers : Command → LanguageChoice → (shown text settings : List ℕ) → Telling → Type 0
-Answers command choice shown text settings telling =
-    (answer : Result Output Refused) × AnswersBytes command choice text settings answer × Tells telling (told_of shown answer)
+abbrev pub Answers : Command → AskedLanguage → (shown text settings : List ℕ) → Telling → Type 0
+Answers command asked shown text settings telling =
+    (answer : Result Output Refused) × AnswersBytes command asked text settings answer × Tells telling (told_of shown answer)

@@ -12,7 +12,7 @@ ghost use Rattle.commands.specs.Refused.{no_memory};
 ghost use Rattle.named_answers.specs.NamedAnswers.{Answers, Tells, refusal_line_of, told_of, told_unread};
 
 use command_line::{ReadFailure, failure_words};
-use commands::{Command, LanguageChoice, Refused, status};
+use commands::{AskedLanguage, Command, Refused, status};
 use embedding::{Output, refusal_text, run_on_bytes};
 use many_files::with_name;
 use source_text::Fault;
@@ -112,14 +112,14 @@ fn told_or_no_memory(alloc: Global, shown: &[u8], answer: &Output) -> Result<Tel
 pub fn answered(
     alloc: Global,
     command: Command,
-    choice: LanguageChoice,
+    asked: AskedLanguage,
     shown: &[u8],
     text: &[u8],
     settings: &[u8],
 ) -> Result<Telling, AllocError>
-    ensures { IfOk result (λ telling. Answers command choice shown.now text.now settings.now telling) }
+    ensures { IfOk result (λ telling. Answers command asked shown.now text.now settings.now telling) }
 {
-    match run_on_bytes(alloc, command, choice, text, settings) {
+    match run_on_bytes(alloc, command, asked, text, settings) {
         Ok(answer) => told_or_no_memory(alloc, shown, &answer),
         Err(why) => refused(alloc, shown, &why),
     }

@@ -1,6 +1,8 @@
 pub mod PartTestLemmas
 pub mod SearchLemmas
 pub mod PartCounts
+pub mod SilentLemmas
+mod CalmLemmas
 pub mod WalkLemmas
 pub mod Together
 pub mod DueLemmas

@@ -1,16 +1,12 @@
 -- What rules say of nodes, as walks over them go.
 use Rattle.std.proofs.Common.{◌≡◌, ℕ, zero, suc, ◌+◌, ◌<◌, ◌≤◌, List, [], ◌∷◌, ◌++◌, Option, Some, None, length, drop, get_or, refl, sym, ap, ◌∙◌, arith, add-one, append_assoc, append-nil}
 use Rattle.std.proofs.Math.Seq.{drop-cons}
-use Rattle.tree.specs.Tree.{Tree, node, Parts, none, part, gap, kind_of, parts_of, part_at, part_count, parts_drop}
+use Rattle.tree.specs.Tree.{Tree, node, Parts, none, part, gap, parts_of, part_at, part_count, parts_drop}
 use Rattle.rule_words.specs.Reports.{Report}
 use Rattle.rule_words.specs.Appends.{Grows}
 use Rattle.node_rules.specs.declared.around.Around.{Around}
-use Rattle.node_rules.specs.declared.due_rules.DueRules.{DueRules}
-use Rattle.node_rules.specs.declared.node_rule.NodeOptions.{NodeOptions}
 use Rattle.node_rules.specs.Arounds.{inside, at_place}
-use Rattle.node_rules.specs.Due.{IsPassed, of_due}
 use Rattle.node_rules.specs.Over.{over_nodes, over_parts}
-use Rattle.node_rules.specs.Rows.{of_rules}
 
 -- what is appended to a longer list is appended to the shorter one too
 pub grows-on : (xs ys zs : List Report) → Grows xs ys → Grows ys zs → Grows xs zs
@@ -53,22 +49,9 @@ over-given f a b ps i t acc new total l e at n so =
     let step : over_parts f a i (parts_drop i ps) ≡ over_nodes f (at_place a i) t ++ rest = over-step f a ps i i (Some t) l e ∙ ap (λ n. over_nodes f (at_place a i) t ++ over_parts f a (i + 1) (parts_drop n ps)) (sym (add-one i)) in
     ap (λ x. x ++ rest) (n ∙ ap (λ b. acc ++ over_nodes f b t) at) ∙ append_assoc acc (over_nodes f (at_place a i) t) rest ∙ ap (λ x. acc ++ x) (sym step) ∙ so
 
--- nothing is reported of what is passed
-passed-over : (options : NodeOptions) (source : List ℕ) (due : DueRules) (a : Around) (o : Option Tree) → IsPassed due o → over_at (of_due options source due) a o ≡ []
-passed-over options source due a None passed = refl
-passed-over options source due a (Some t) passed =
-    over_nodes-is (of_due options source due) a t
-    ∙ ap (λ rules. of_rules options source rules a t ++ over_parts (of_due options source due) (inside a t) 0 (parts_of t)) passed.0
-    ∙ over-past (of_due options source due) (inside a t) (parts_of t) 0 0 (omega (arith, passed.1))
-
-pub over-passed : (options : NodeOptions) (source : List ℕ) (due : DueRules) (a : Around) (ps : Parts) (i : ℕ) (acc total : List Report) → i < part_count ps → IsPassed due (part_at ps i) →
-    acc ++ over_parts (of_due options source due) a i (parts_drop i ps) ≡ total → acc ++ over_parts (of_due options source due) a (i + 1) (parts_drop (i + 1) ps) ≡ total
-over-passed options source due a ps i acc total l passed so =
-    let f : Around → Tree → List Report = of_due options source due in
-    let rest : List Report = over_parts f a (i + 1) (parts_drop (i + 1) ps) in
-    let step : over_parts f a i (parts_drop i ps) ≡ rest =
-    over-step f a ps i i (part_at ps i) l refl ∙ ap (λ x. x ++ over_parts f a (i + 1) (parts_drop (suc i) ps)) (passed-over options source due (at_place a i) (part_at ps i) passed)
-    ∙ ap (λ n. over_parts f a (i + 1) (parts_drop n ps)) (sym (add-one i)) in
+pub over-gap : (f : Around → Tree → List Report) (a : Around) (ps : Parts) (i : ℕ) (acc total : List Report) → i < part_count ps → None ≡ part_at ps i → acc ++ over_parts f a i (parts_drop i ps) ≡ total → acc ++ over_parts f a (i + 1) (parts_drop (i + 1) ps) ≡ total
+over-gap f a ps i acc total l e so =
+    let step : over_parts f a i (parts_drop i ps) ≡ over_parts f a (i + 1) (parts_drop (i + 1) ps) = over-step f a ps i i None l e ∙ ap (λ n. over_parts f a (i + 1) (parts_drop n ps)) (sym (add-one i)) in
     ap (λ x. acc ++ x) (sym step) ∙ so
 
 pub over-end : (f : Around → Tree → List Report) (a : Around) (ps : Parts) (i : ℕ) (acc total : List Report) → part_count ps ≤ i → acc ++ over_parts f a i (parts_drop i ps) ≡ total → acc ≡ total

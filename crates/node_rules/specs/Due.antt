@@ -1,7 +1,7 @@
 -- Which rules look at which kind, made once for a walk.
-use Rattle.std.specs.Prelude.{◌≡◌, ℕ, Bool, true, false, cond, List, [], ◌∷◌, Option, Some, None, map, get_or}
+use Rattle.std.specs.Prelude.{◌≡◌, ℕ, Bool, true, ◌&&◌, cond, length, nat_eq, List, [], ◌∷◌, map, get_or}
 use Rattle.tree.specs.declared.kind.Kind.{Kind}
-use Rattle.tree.specs.Tree.{Tree, kind_of, part_count, parts_of}
+use Rattle.tree.specs.Tree.{Tree, node, Parts, none, part, gap, kind_of}
 use Rattle.rule_words.specs.Reports.{Report}
 use Rattle.node_rules.specs.declared.around.Around.{Around}
 use Rattle.node_rules.specs.declared.due_rules.DueRules.{DueRules}
@@ -31,7 +31,12 @@ IsDue rules due = lists_of due ≡ map (looking_at rules) all_kinds
 abbrev pub of_due : NodeOptions → List ℕ → DueRules → Around → Tree → List Report
 of_due options source due around tree = of_rules options source (due_at due (kind_of tree)) around tree
 
--- no node, or one without parts at which no rule looks
-abbrev pub IsPassed : DueRules → Option Tree → Type 0
-IsPassed due None = Unit {0}
-IsPassed due (Some tree) = (due_at due (kind_of tree) ≡ []) × (part_count (parts_of tree) ≡ 0)
+unfoldable mutual
+  -- no rule looks at a node, nor at one below it
+  pub is_silent : DueRules → Tree → Bool
+  is_silent due (node kind text flags from to parts) = nat_eq (length (due_at due kind)) 0 && are_silent due parts
+
+  pub are_silent : DueRules → Parts → Bool
+  are_silent due none = true
+  are_silent due (part tree rest) = is_silent due tree && are_silent due rest
+  are_silent due (gap rest) = are_silent due rest

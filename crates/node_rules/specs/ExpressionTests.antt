@@ -11,15 +11,19 @@ use Rattle.tree.specs.Kinds.{is_loop}
 use Rattle.tree.specs.Tree.{Tree, node, kind_of, text_of, flags_of, part_at, start_of}
 use Rattle.language.specs.Vocabulary.{is}
 use Rattle.node_rules.specs.declared.around.Around.{Around}
-use Rattle.node_rules.specs.KindSets.{is_assignment, is_block, is_binary, is_function_expression, is_if, is_literal_kind, is_object_pattern, is_plain_call, is_property, is_spread, is_unary_kind, takes_effect}
+use Rattle.node_rules.specs.KindSets.{is_assignment, is_block, is_binary, is_do, is_function_expression, is_if, is_literal_kind, is_object_pattern, is_plain_call, is_property, is_spread, is_unary_kind, is_variable_declaration, takes_effect}
 use Rattle.node_rules.specs.Tests.{first_of, is_empty_object}
 use Rattle.node_rules.specs.Values.{is_empty_text, is_number, is_numeric, is_radix, is_text}
 use Rattle.node_rules.specs.ValueSearches.{is_sum}
 use Rattle.node_rules.specs.Words.{is_identifier, is_member, is_name, is_string, is_unary, kind_at, nth, object_of, operand, span_at, text_at, unchained}
 
+-- a declaration in the head of a `for`: the first part of a loop, which of `do` is its body
+abbrev pub is_head : Around → Tree → Bool
+is_head around tree = is_variable_declaration (kind_of tree) && (nat_eq around.place 0 && not (is_do around.parent))
+
 -- the body of an `if`, `else` or loop stands here, which is no block; `else if` aside
 abbrev pub is_bare_body : Around → Tree → Bool
-is_bare_body around tree = is_loop around.parent || (is_if around.parent && not (is_if (kind_of tree) && nat_eq around.place 2))
+is_bare_body around tree = (is_loop around.parent && not (is_head around tree)) || (is_if around.parent && not (is_if (kind_of tree) && nat_eq around.place 2))
 
 -- `arguments.callee` or `arguments.caller`
 abbrev pub is_caller : Tree → Bool

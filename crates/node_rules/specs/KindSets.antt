@@ -55,10 +55,20 @@ abbrev pub is_conditional : Kind → Bool
 is_conditional ConditionalExpression = true
 is_conditional _ = false
 
+-- `continue`
+abbrev pub is_continue : Kind → Bool
+is_continue ContinueStatement = true
+is_continue _ = false
+
 -- `debugger`
 abbrev pub is_debugger : Kind → Bool
 is_debugger DebuggerStatement = true
 is_debugger _ = false
+
+-- `do`
+abbrev pub is_do : Kind → Bool
+is_do DoWhileStatement = true
+is_do _ = false
 
 -- an empty statement
 abbrev pub is_empty_statement : Kind → Bool
@@ -205,6 +215,11 @@ abbrev pub is_unary_kind : Kind → Bool
 is_unary_kind UnaryExpression = true
 is_unary_kind _ = false
 
+-- `++` or `--`
+abbrev pub is_update : Kind → Bool
+is_update UpdateExpression = true
+is_update _ = false
+
 -- a declaration of variables
 abbrev pub is_variable_declaration : Kind → Bool
 is_variable_declaration VariableDeclaration = true
@@ -304,6 +319,7 @@ is_short_body DoWhileStatement = true
 is_short_body ForStatement = true
 is_short_body ForInStatement = true
 is_short_body ForOfStatement = true
+is_short_body VariableDeclaration = true
 is_short_body _ = false
 
 -- a jump, or `throw`

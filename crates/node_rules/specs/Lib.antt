@@ -9,6 +9,7 @@ pub mod Tests
 pub mod ExpressionTests
 pub mod ValueTests
 pub mod Arounds
+pub mod Calm
 pub mod ClassTests
 pub mod Over
 pub mod Rows

@@ -11,13 +11,13 @@ use Rattle.rule_words.specs.Reports.{Report}
 use Rattle.node_rules.specs.declared.around.Around.{Around}
 use Rattle.node_rules.specs.declared.node_rule.NodeOptions.{NodeOptions}
 use Rattle.node_rules.specs.declared.node_rule.NodeRule.{NodeRule}
-use Rattle.node_rules.specs.declared.node_rule.NodeRule.TheVariants.{Curly, DefaultCaseLast, DotNotation, EqEqEq, ForDirection, NoArrayConstructor, NoAsyncPromiseExecutor, NoCaller, NoCaseDeclarations, NoCompareNegZero, NoConstantBinaryExpression, NoConstantCondition, NoDebugger, NoEmpty, NoEmptyPattern, NoEmptyStaticBlock, NoEval, NoExtraBooleanCast, NoExtraSemi, NoImplicitCoercion, NoInnerDeclarations, NoLabels, NoLonelyIf, NoMultiAssign, NoMultiStr, NoNestedTernary, NoNew, NoNewFunc, NoNewObject, NoNewWrappers, NoProto, NoPrototypeBuiltins, NoReturnAwait, NoSelfAssign, NoSelfCompare, NoSetterReturn, NoSparseArrays, NoThrowLiteral, NoUndefInit, NoUnneededTernary, NoUnsafeFinally, NoUnsafeNegation, NoUnsafeOptionalChaining, NoUnusedExpressions, NoUnusedLabels, NoUselessCatch, NoUselessComputedKey, NoUselessConcat, NoUselessConstructor, NoUselessRename, NoVar, NoVoid, ObjectShorthand, OperatorAssignment, PreferExponentiationOperator, PreferObjectHasOwn, PreferTemplate, Radix, RequireYield, SymbolDescription, UseIsNan, ValidTypeof, Yoda}
+use Rattle.node_rules.specs.declared.node_rule.NodeRule.TheVariants.{Curly, DefaultCaseLast, DotNotation, EqEqEq, ForDirection, NoArrayConstructor, NoAsyncPromiseExecutor, NoCaller, NoCaseDeclarations, NoCompareNegZero, NoConstantBinaryExpression, NoConstantCondition, NoContinue, NoDebugger, NoEmpty, NoEmptyPattern, NoEmptyStaticBlock, NoEval, NoExtraBooleanCast, NoExtraSemi, NoImplicitCoercion, NoInnerDeclarations, NoLabels, NoLonelyIf, NoMultiAssign, NoMultiStr, NoNestedTernary, NoNew, NoNewFunc, NoNewObject, NoNewWrappers, NoPlusplus, NoProto, NoPrototypeBuiltins, NoReturnAwait, NoSelfAssign, NoSelfCompare, NoSetterReturn, NoSparseArrays, NoTernary, NoThrowLiteral, NoUndefInit, NoUnneededTernary, NoUnsafeFinally, NoUnsafeNegation, NoUnsafeOptionalChaining, NoUnusedExpressions, NoUnusedLabels, NoUselessCatch, NoUselessComputedKey, NoUselessConcat, NoUselessConstructor, NoUselessRename, NoVar, NoVoid, ObjectShorthand, OperatorAssignment, PreferExponentiationOperator, PreferObjectHasOwn, PreferTemplate, Radix, RequireYield, SymbolDescription, UseIsNan, ValidTypeof, Yoda}
 use Rattle.node_rules.specs.declared.search.Sought.TheVariants.{Jump}
 use Rattle.node_rules.specs.Arounds.{is_const_remark, is_returned}
 use Rattle.node_rules.specs.ClassTests.{is_useless_constructor}
 use Rattle.node_rules.specs.Paths.{are_same}
 use Rattle.node_rules.specs.PartTests.{any_part, is_default, is_gap, is_null}
-use Rattle.node_rules.specs.KindSets.{compares, declares, destructures, gets_value, has_body, has_statement_list, is_array, is_assignment, is_await, is_binary, is_binary_operation, is_call, is_case, is_conditional, is_debugger, is_declarator, is_empty_statement, is_expression_statement, is_for, is_function_declaration, is_if, is_labelled, is_literal_kind, is_member_expression, is_method, is_new, is_object, is_operation, is_own_function, is_plain_call, is_property, is_return, is_short_body, is_static_block, is_switch, is_test_of_statement, is_throw, is_try, is_unary_kind, is_variable_declaration, jumps, makes_boolean, may_have_label, needs_object, renames}
+use Rattle.node_rules.specs.KindSets.{compares, declares, destructures, gets_value, has_body, has_statement_list, is_array, is_assignment, is_await, is_binary, is_binary_operation, is_call, is_case, is_conditional, is_continue, is_debugger, is_declarator, is_empty_statement, is_expression_statement, is_for, is_function_declaration, is_if, is_labelled, is_literal_kind, is_member_expression, is_method, is_new, is_object, is_operation, is_own_function, is_plain_call, is_property, is_return, is_short_body, is_static_block, is_switch, is_test_of_statement, is_throw, is_try, is_unary_kind, is_update, is_variable_declaration, jumps, makes_boolean, may_have_label, needs_object, renames}
 use Rattle.node_rules.specs.Searches.{has_sought}
 use Rattle.node_rules.specs.Words.{is_async_function, is_comparison, is_empty, is_equality, is_identifier, is_key_part, is_name, is_string, kind_at, nth, span_at, span_of, text_at, unchained}
 use Rattle.node_rules.specs.Tests.{compares_nan, first_of, is_builtin_test, is_cast, is_empty_node, is_lexical, is_minus_zero, is_never_typeof, is_outermost, never_yields, only_throws, runs_away, tested}
@@ -38,6 +38,7 @@ called NoCaseDeclarations = codes "no-case-declarations"
 called NoCompareNegZero = codes "no-compare-neg-zero"
 called NoConstantBinaryExpression = codes "no-constant-binary-expression"
 called NoConstantCondition = codes "no-constant-condition"
+called NoContinue = codes "no-continue"
 called NoDebugger = codes "no-debugger"
 called NoEmpty = codes "no-empty"
 called NoEmptyPattern = codes "no-empty-pattern"
@@ -56,6 +57,7 @@ called NoNew = codes "no-new"
 called NoNewFunc = codes "no-new-func"
 called NoNewObject = codes "no-new-object"
 called NoNewWrappers = codes "no-new-wrappers"
+called NoPlusplus = codes "no-plusplus"
 called NoProto = codes "no-proto"
 called NoPrototypeBuiltins = codes "no-prototype-builtins"
 called NoReturnAwait = codes "no-return-await"
@@ -63,6 +65,7 @@ called NoSelfAssign = codes "no-self-assign"
 called NoSelfCompare = codes "no-self-compare"
 called NoSetterReturn = codes "no-setter-return"
 called NoSparseArrays = codes "no-sparse-arrays"
+called NoTernary = codes "no-ternary"
 called NoThrowLiteral = codes "no-throw-literal"
 called NoUndefInit = codes "no-undef-init"
 called NoUnneededTernary = codes "no-unneeded-ternary"
@@ -103,6 +106,7 @@ looks NoCaseDeclarations kind = declares kind
 looks NoCompareNegZero kind = is_binary kind
 looks NoConstantBinaryExpression kind = is_binary_operation kind
 looks NoConstantCondition kind = is_test_of_statement kind
+looks NoContinue kind = is_continue kind
 looks NoDebugger kind = is_debugger kind
 looks NoEmpty kind = has_statement_list kind
 looks NoEmptyPattern kind = destructures kind
@@ -121,6 +125,7 @@ looks NoNew kind = is_expression_statement kind
 looks NoNewFunc kind = is_call kind
 looks NoNewObject kind = is_new kind
 looks NoNewWrappers kind = is_new kind
+looks NoPlusplus kind = is_update kind
 looks NoProto kind = is_member_expression kind
 looks NoPrototypeBuiltins kind = is_plain_call kind
 looks NoReturnAwait kind = is_await kind
@@ -128,6 +133,7 @@ looks NoSelfAssign kind = is_assignment kind
 looks NoSelfCompare kind = is_binary kind
 looks NoSetterReturn kind = is_return kind
 looks NoSparseArrays kind = is_array kind
+looks NoTernary kind = is_conditional kind
 looks NoThrowLiteral kind = is_throw kind
 looks NoUndefInit kind = is_declarator kind
 looks NoUnneededTernary kind = is_conditional kind
@@ -169,6 +175,7 @@ holds options source NoCaseDeclarations around tree = is_case around.parent && i
 holds options source NoCompareNegZero around tree = is_comparison (text_of tree) && (is_minus_zero (nth 0 tree) || is_minus_zero (nth 1 tree))
 holds options source NoConstantBinaryExpression around tree = is_constant_operation tree
 holds options source NoConstantCondition around tree = is_constant_test tree
+holds options source NoContinue around tree = true
 holds options source NoDebugger around tree = true
 holds options source NoEmpty around tree = is_empty_node options source around tree
 holds options source NoEmptyPattern around tree = is_empty (parts_of tree)
@@ -187,6 +194,7 @@ holds options source NoNew around tree = is_new (kind_at (nth 0 tree))
 holds options source NoNewFunc around tree = is_name (codes "Function") (nth 0 tree)
 holds options source NoNewObject around tree = is_name (codes "Object") (nth 0 tree)
 holds options source NoNewWrappers around tree = is_wrapper (nth 0 tree)
+holds options source NoPlusplus around tree = true
 holds options source NoProto around tree = is_key_part (codes "__proto__") (flags_of tree).computed (nth 1 tree)
 holds options source NoPrototypeBuiltins around tree = is_builtin_test (unchained (nth 0 tree))
 holds options source NoReturnAwait around tree = is_returned around
@@ -194,6 +202,7 @@ holds options source NoSelfAssign around tree = is_self_assignment tree
 holds options source NoSelfCompare around tree = is_comparison (text_of tree) && are_same (nth 0 tree) (nth 1 tree)
 holds options source NoSetterReturn around tree = around.in_setter && is_some (nth 0 tree)
 holds options source NoSparseArrays around tree = any_part is_gap (parts_of tree)
+holds options source NoTernary around tree = true
 holds options source NoThrowLiteral around tree = throws_no_error tree
 holds options source NoUndefInit around tree = not (is_const_remark around.remark) && (is_identifier (nth 0 tree) && is_name (codes "undefined") (nth 1 tree))
 holds options source NoUnneededTernary around tree = is_boolean (nth 1 tree) && is_boolean (nth 2 tree)
@@ -268,6 +277,7 @@ says NoCaseDeclarations tree = codes "declaration in a case"
 says NoCompareNegZero tree = codes "no comparison tells -0 from 0"
 says NoConstantBinaryExpression tree = codes "constant operation"
 says NoConstantCondition tree = codes "constant condition"
+says NoContinue tree = codes "continue"
 says NoDebugger tree = codes "debugger statement"
 says NoEmpty tree = empty_words (kind_of tree)
 says NoEmptyPattern tree = codes "empty pattern"
@@ -286,6 +296,7 @@ says NoNew tree = codes "new object without use"
 says NoNewFunc tree = codes "code from text"
 says NoNewObject tree = codes "use an object literal"
 says NoNewWrappers tree = codes "wrapper object"
+says NoPlusplus tree = codes "use an assignment"
 says NoProto tree = codes "use Object.getPrototypeOf"
 says NoPrototypeBuiltins tree = codes "call it by Object.prototype"
 says NoReturnAwait tree = codes "await of what is returned"
@@ -293,6 +304,7 @@ says NoSelfAssign tree = codes "assigned to itself"
 says NoSelfCompare tree = codes "both sides are the same"
 says NoSetterReturn tree = codes "setter returns a value"
 says NoSparseArrays tree = codes "array with a hole"
+says NoTernary tree = codes "conditional expression"
 says NoThrowLiteral tree = codes "throw an Error"
 says NoUndefInit tree = codes "undefined anyway"
 says NoUnneededTernary tree = codes "the test says it"

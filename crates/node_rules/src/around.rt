@@ -3,6 +3,7 @@
 ghost use Rattle.std.specs.Prelude.{◌≡◌, ◌&&◌, cond};
 ghost use Rattle.tree.specs.Node.{node_tree};
 ghost use Rattle.node_rules.specs.Arounds.{at_place, ending_inside, hands_out, inside, is_finalizer, is_guarded, is_member, is_returned, is_set, is_setter, leaving_by_label_inside, leaving_inside, remark_inside, round_root, setter_inside, used};
+ghost use Rattle.node_rules.specs.Calm.{changes_around, is_calm, keeps_around};
 ghost use Rattle.node_rules.specs.declared.around.Ending.TheVariants.{GivenBack, Guarded};
 ghost use Rattle.node_rules.specs.declared.around.Remark.TheVariants.{NoRemark};
 
@@ -27,6 +28,7 @@ impl Jumps {
     ghost use Rattle.node_rules.specs.Arounds.{has_breaks, has_continues, has_returns, in_loop, in_switch};
 
     /// Whether `return` and `throw` do.
+    #[inline]
     pub(crate) fn has_returns(self) -> bool
         ensures { result ≡ has_returns self }
     {
@@ -129,6 +131,15 @@ pub(crate) enum Ending {
 impl Ending {
     ghost use Rattle.std.specs.Prelude.{◌≡◌};
     ghost use Rattle.node_rules.specs.Arounds.{given_back, is_given_back, used};
+    ghost use Rattle.node_rules.specs.Calm.{is_used};
+
+    /// Whether the function uses them.
+    #[inline]
+    fn is_used(self) -> bool
+        ensures { result ≡ is_used self }
+    {
+        matches!(self, Ending::Used)
+    }
 
     /// Whether one may be the function's result.
     fn is_given_back(self) -> bool
@@ -199,8 +210,48 @@ impl Around {
         }
     }
 
-    /// Round the first part of a node.
-    pub(crate) fn inside(self, node: Node) -> Around
+    /// Round the first part of a node, which is the part at this place. Most nodes change no more than the parent: asked first, that spares
+    /// a question for each field.
+    #[inline]
+    pub(crate) fn inside(&self, place: usize, node: Node) -> Around
+        ensures { result ≡ inside (at_place self.now place) (node_tree node.entry) }
+    {
+        if !self.keeps_around(node.kind()) {
+            return self.at_place(place).inside_any(node);
+        }
+        Around {
+            parent: node.kind(),
+            form: node.flags().form,
+            grandparent: self.parent,
+            place: 0,
+            in_setter: self.in_setter,
+            remark: Remark::NoRemark,
+            leaving: Jumps::NoJumps,
+            leaving_by_label: false,
+            ending: Ending::Used,
+        }
+    }
+
+    /// Whether a node of this kind changes no more than the parent.
+    #[inline]
+    fn keeps_around(&self, kind: Kind) -> bool
+        ensures { result ≡ keeps_around self.now kind }
+    {
+        self.is_calm() && !changes_around(kind)
+    }
+
+    /// Whether nothing leaves a finalizer from here, values here are used, and no `try` is the parent.
+    #[inline]
+    fn is_calm(&self) -> bool
+        ensures { result ≡ is_calm self.now }
+    {
+        (!is_try(self.parent) && !self.leaving.has_returns())
+            && (!self.leaving_by_label && self.ending.is_used())
+    }
+
+    /// Round the first part of a node that stands here, field by field.
+    #[inline(never)]
+    fn inside_any(self, node: Node) -> Around
         ensures { result ≡ inside self (node_tree node.entry) }
     {
         Around {
@@ -235,6 +286,7 @@ impl Around {
     }
 
     /// Whether the nearest function round the parts of a node of this kind is a setter's.
+    #[inline]
     fn setter_inside(self, kind: Kind) -> bool
         ensures { result ≡ setter_inside self kind }
     {
@@ -246,6 +298,7 @@ impl Around {
     }
 
     /// Whether the finalizer of a `try` stands here.
+    #[inline]
     fn is_finalizer(self) -> bool
         ensures { result ≡ is_finalizer self }
     {
@@ -253,6 +306,7 @@ impl Around {
     }
 
     /// Which jumps without a label leave a finalizer from the parts of a node of this kind.
+    #[inline]
     fn leaving_inside(self, kind: Kind) -> Jumps
         ensures { result ≡ leaving_inside self kind }
     {
@@ -270,6 +324,7 @@ impl Around {
     }
 
     /// Whether those with a label do.
+    #[inline]
     fn leaving_by_label_inside(self, kind: Kind) -> bool
         ensures { result ≡ leaving_by_label_inside self kind }
     {
@@ -277,6 +332,7 @@ impl Around {
     }
 
     /// What is to be said of a node beside its kind.
+    #[inline]
     fn remark_inside(self, node: Node) -> Remark
         ensures { result ≡ remark_inside self (node_tree node.entry) }
     {
@@ -294,6 +350,7 @@ impl Around {
     }
 
     /// Whether a value here is the function's result, and no `try` of the function hears of an error in it.
+    #[inline]
     pub(crate) fn is_returned(self) -> bool
         ensures { result ≡ is_returned self }
     {
@@ -301,6 +358,7 @@ impl Around {
     }
 
     /// Whether the block of a `try` stands here, or a `catch` behind which a finalizer stands.
+    #[inline]
     fn is_guarded(self) -> bool
         ensures { result ≡ is_guarded self }
     {
@@ -308,6 +366,7 @@ impl Around {
     }
 
     /// What becomes of the values in a node of this kind.
+    #[inline]
     fn ending_inside(self, kind: Kind) -> Ending
         ensures { result ≡ ending_inside self kind }
     {
@@ -320,6 +379,7 @@ impl Around {
     }
 
     /// The same, where no function nor `return` begins.
+    #[inline]
     fn ending_here(self) -> Ending
         ensures { result ≡ cond (is_guarded self) Guarded (cond (is_returned self) GivenBack (used self.ending)) }
     {
@@ -333,11 +393,33 @@ impl Around {
     }
 
     /// Whether the function of a setter stands here.
+    #[inline]
     fn is_setter(self) -> bool
         ensures { result ≡ is_setter self }
     {
         is_member(self.parent) && is_set(self.form) && self.place == 1
     }
+}
+
+/// Whether nodes of this kind may change more than the parent: functions, classes, `return`, `try`, what may be a sum, and declarations of
+/// variables.
+#[inline]
+fn changes_around(kind: Kind) -> bool
+    ensures { result ≡ changes_around kind }
+{
+    matches!(
+        kind,
+        Kind::ArrowFunctionExpression
+            | Kind::BinaryExpression
+            | Kind::ClassBody
+            | Kind::ClassDeclaration
+            | Kind::ClassExpression
+            | Kind::FunctionDeclaration
+            | Kind::FunctionExpression
+            | Kind::ReturnStatement
+            | Kind::TryStatement
+            | Kind::VariableDeclaration
+    )
 }
 
 /// Whether it is the kind of members that may be setters.
@@ -362,6 +444,7 @@ fn remark_if(is_so: bool, remark: Remark) -> Remark
 }
 
 /// Whether the value of the part at a place is that of its node, or the function's result.
+#[inline]
 fn hands_out(parent: Kind, place: usize) -> bool
     ensures { result ≡ hands_out parent place }
 {

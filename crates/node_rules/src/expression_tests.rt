@@ -2,12 +2,13 @@
 
 ghost use Rattle.std.specs.Prelude.{◌≡◌, option_map};
 ghost use Rattle.tree.specs.Node.{node_tree};
-ghost use Rattle.node_rules.specs.ExpressionTests.{adds_texts, are_joined, callee_of, calls_has_own, coercion_words, end_of_sum, finds_place, has_nothing, has_one, is_any_object, is_bare_body, is_caller, is_coercion, is_init, is_key_named, is_lonely_if, is_long_property, is_negated_side, is_one_line, is_parse_int, is_plus_nothing, is_power, is_times_one, is_unary_coercion, is_unnamed_function, is_used, is_wrapper, keeps_key, keeps_name, lacks_radix, may_rename, second_of, start_of_sum, without_default};
+ghost use Rattle.node_rules.specs.ExpressionTests.{adds_texts, are_joined, callee_of, calls_has_own, coercion_words, end_of_sum, finds_place, has_nothing, has_one, is_any_object, is_bare_body, is_caller, is_coercion, is_head, is_init, is_key_named, is_lonely_if, is_long_property, is_negated_side, is_one_line, is_parse_int, is_plus_nothing, is_power, is_times_one, is_unary_coercion, is_unnamed_function, is_used, is_wrapper, keeps_key, keeps_name, lacks_radix, may_rename, second_of, start_of_sum, without_default};
 
 use crate::around::Around;
 use crate::kind_sets::{
-    is_assignment, is_binary, is_block, is_function_expression, is_if, is_literal_kind,
-    is_object_pattern, is_plain_call, is_property, is_spread, is_unary_kind, takes_effect,
+    is_assignment, is_binary, is_block, is_do, is_function_expression, is_if, is_literal_kind,
+    is_object_pattern, is_plain_call, is_property, is_spread, is_unary_kind,
+    is_variable_declaration, takes_effect,
 };
 use crate::tests::{first_of, is_empty_object};
 use crate::value_search::is_sum;
@@ -17,11 +18,19 @@ use crate::words::{
 };
 use tree::{Form, Kind, Node};
 
+/// Whether a declaration in the head of a `for` stands here.
+fn is_head(around: Around, node: Node) -> bool
+    ensures { result ≡ is_head around (node_tree node.entry) }
+{
+    is_variable_declaration(node.kind()) && around.place == 0 && !is_do(around.parent)
+}
+
 /// Whether the body of an `if`, `else` or loop stands here, which is no block; `else if` aside.
 pub(crate) fn is_bare_body(around: Around, node: Node) -> bool
     ensures { result ≡ is_bare_body around (node_tree node.entry) }
 {
-    around.parent.is_loop() || (is_if(around.parent) && !(is_if(node.kind()) && around.place == 2))
+    (around.parent.is_loop() && !is_head(around, node))
+        || (is_if(around.parent) && !(is_if(node.kind()) && around.place == 2))
 }
 
 /// Whether a member is `arguments.callee` or `arguments.caller`.

@@ -1,7 +1,7 @@
 //! Sets of kinds: at which kinds rules look, and which they ask of what stands round a node.
 
 ghost use Rattle.std.specs.Prelude.{◌≡◌};
-ghost use Rattle.node_rules.specs.KindSets.{compares, declares, destructures, ends_jumps, gets_value, has_body, has_default, has_statement_list, is_array, is_assignment, is_await, is_binary, is_binary_operation, is_block, is_call, is_case, is_chain, is_conditional, is_debugger, is_declarator, is_empty_statement, is_expression_statement, is_for, is_function_declaration, is_function_expression, is_if, is_labelled, is_literal_kind, is_logical, is_member_expression, is_method, is_name_kind, is_new, is_object, is_object_pattern, is_operation, is_own_function, is_plain_call, is_property, is_return, is_short_body, is_spread, is_static_block, is_super, is_switch, is_template, is_test_of_statement, is_this, is_throw, is_try, is_unary_kind, is_variable_declaration, jumps, makes_boolean, makes_object, may_be_error, may_have_label, needs_object, renames, takes_effect};
+ghost use Rattle.node_rules.specs.KindSets.{compares, declares, destructures, ends_jumps, gets_value, has_body, has_default, has_statement_list, is_array, is_assignment, is_await, is_binary, is_binary_operation, is_block, is_call, is_case, is_chain, is_conditional, is_continue, is_debugger, is_declarator, is_do, is_empty_statement, is_expression_statement, is_for, is_function_declaration, is_function_expression, is_if, is_labelled, is_literal_kind, is_logical, is_member_expression, is_method, is_name_kind, is_new, is_object, is_object_pattern, is_operation, is_own_function, is_plain_call, is_property, is_return, is_short_body, is_spread, is_static_block, is_super, is_switch, is_template, is_test_of_statement, is_this, is_throw, is_try, is_unary_kind, is_update, is_variable_declaration, jumps, makes_boolean, makes_object, may_be_error, may_have_label, needs_object, renames, takes_effect};
 
 use tree::Kind;
 
@@ -75,11 +75,25 @@ pub(crate) fn is_conditional(kind: Kind) -> bool
     matches!(kind, Kind::ConditionalExpression)
 }
 
+/// Whether it is the kind of `continue`.
+pub(crate) fn is_continue(kind: Kind) -> bool
+    ensures { result ≡ is_continue kind }
+{
+    matches!(kind, Kind::ContinueStatement)
+}
+
 /// Whether it is the kind of `debugger`.
 pub(crate) fn is_debugger(kind: Kind) -> bool
     ensures { result ≡ is_debugger kind }
 {
     matches!(kind, Kind::DebuggerStatement)
+}
+
+/// Whether it is the kind of a `do`.
+pub(crate) fn is_do(kind: Kind) -> bool
+    ensures { result ≡ is_do kind }
+{
+    matches!(kind, Kind::DoWhileStatement)
 }
 
 /// Whether it is the kind of an empty statement.
@@ -285,6 +299,13 @@ pub(crate) fn is_unary_kind(kind: Kind) -> bool
     matches!(kind, Kind::UnaryExpression)
 }
 
+/// Whether it is the kind of `++` or `--`.
+pub(crate) fn is_update(kind: Kind) -> bool
+    ensures { result ≡ is_update kind }
+{
+    matches!(kind, Kind::UpdateExpression)
+}
+
 /// Whether it is the kind of a declaration of variables.
 pub(crate) fn is_variable_declaration(kind: Kind) -> bool
     ensures { result ≡ is_variable_declaration kind }
@@ -420,6 +441,7 @@ pub(crate) fn is_short_body(kind: Kind) -> bool
             | Kind::ForStatement
             | Kind::ForInStatement
             | Kind::ForOfStatement
+            | Kind::VariableDeclaration
     )
 }
 

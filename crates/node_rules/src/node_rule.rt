@@ -43,6 +43,7 @@ use crate::kind_sets::is_binary_operation;
 use crate::kind_sets::is_call;
 use crate::kind_sets::is_case;
 use crate::kind_sets::is_conditional;
+use crate::kind_sets::is_continue;
 use crate::kind_sets::is_debugger;
 use crate::kind_sets::is_declarator;
 use crate::kind_sets::is_empty_statement;
@@ -68,6 +69,7 @@ use crate::kind_sets::is_test_of_statement;
 use crate::kind_sets::is_throw;
 use crate::kind_sets::is_try;
 use crate::kind_sets::is_unary_kind;
+use crate::kind_sets::is_update;
 use crate::kind_sets::is_variable_declaration;
 use crate::kind_sets::jumps;
 use crate::kind_sets::makes_boolean;
@@ -140,6 +142,7 @@ pub enum NodeRule {
     NoCompareNegZero,
     NoConstantBinaryExpression,
     NoConstantCondition,
+    NoContinue,
     NoDebugger,
     NoEmpty,
     NoEmptyPattern,
@@ -158,6 +161,7 @@ pub enum NodeRule {
     NoNewFunc,
     NoNewObject,
     NoNewWrappers,
+    NoPlusplus,
     NoProto,
     NoPrototypeBuiltins,
     NoReturnAwait,
@@ -165,6 +169,7 @@ pub enum NodeRule {
     NoSelfCompare,
     NoSetterReturn,
     NoSparseArrays,
+    NoTernary,
     NoThrowLiteral,
     NoUndefInit,
     NoUnneededTernary,
@@ -194,7 +199,7 @@ pub enum NodeRule {
 }
 
 /// The rules, in the order of their names.
-pub const NODE_RULES: [NodeRule; 63] = [
+pub const NODE_RULES: [NodeRule; 66] = [
     NodeRule::Curly,
     NodeRule::DefaultCaseLast,
     NodeRule::DotNotation,
@@ -207,6 +212,7 @@ pub const NODE_RULES: [NodeRule; 63] = [
     NodeRule::NoCompareNegZero,
     NodeRule::NoConstantBinaryExpression,
     NodeRule::NoConstantCondition,
+    NodeRule::NoContinue,
     NodeRule::NoDebugger,
     NodeRule::NoEmpty,
     NodeRule::NoEmptyPattern,
@@ -225,6 +231,7 @@ pub const NODE_RULES: [NodeRule; 63] = [
     NodeRule::NoNewFunc,
     NodeRule::NoNewObject,
     NodeRule::NoNewWrappers,
+    NodeRule::NoPlusplus,
     NodeRule::NoProto,
     NodeRule::NoPrototypeBuiltins,
     NodeRule::NoReturnAwait,
@@ -232,6 +239,7 @@ pub const NODE_RULES: [NodeRule; 63] = [
     NodeRule::NoSelfCompare,
     NodeRule::NoSetterReturn,
     NodeRule::NoSparseArrays,
+    NodeRule::NoTernary,
     NodeRule::NoThrowLiteral,
     NodeRule::NoUndefInit,
     NodeRule::NoUnneededTernary,
@@ -290,6 +298,7 @@ impl NodeRule {
             NodeRule::NoCompareNegZero => "no-compare-neg-zero",
             NodeRule::NoConstantBinaryExpression => "no-constant-binary-expression",
             NodeRule::NoConstantCondition => "no-constant-condition",
+            NodeRule::NoContinue => "no-continue",
             NodeRule::NoDebugger => "no-debugger",
             NodeRule::NoEmpty => "no-empty",
             NodeRule::NoEmptyPattern => "no-empty-pattern",
@@ -308,6 +317,7 @@ impl NodeRule {
             NodeRule::NoNewFunc => "no-new-func",
             NodeRule::NoNewObject => "no-new-object",
             NodeRule::NoNewWrappers => "no-new-wrappers",
+            NodeRule::NoPlusplus => "no-plusplus",
             NodeRule::NoProto => "no-proto",
             NodeRule::NoPrototypeBuiltins => "no-prototype-builtins",
             NodeRule::NoReturnAwait => "no-return-await",
@@ -315,6 +325,7 @@ impl NodeRule {
             NodeRule::NoSelfCompare => "no-self-compare",
             NodeRule::NoSetterReturn => "no-setter-return",
             NodeRule::NoSparseArrays => "no-sparse-arrays",
+            NodeRule::NoTernary => "no-ternary",
             NodeRule::NoThrowLiteral => "no-throw-literal",
             NodeRule::NoUndefInit => "no-undef-init",
             NodeRule::NoUnneededTernary => "no-unneeded-ternary",
@@ -362,6 +373,7 @@ pub(crate) fn looks(rule: NodeRule, kind: Kind) -> bool
         NodeRule::NoCompareNegZero => is_binary(kind),
         NodeRule::NoConstantBinaryExpression => is_binary_operation(kind),
         NodeRule::NoConstantCondition => is_test_of_statement(kind),
+        NodeRule::NoContinue => is_continue(kind),
         NodeRule::NoDebugger => is_debugger(kind),
         NodeRule::NoEmpty => has_statement_list(kind),
         NodeRule::NoEmptyPattern => destructures(kind),
@@ -380,6 +392,7 @@ pub(crate) fn looks(rule: NodeRule, kind: Kind) -> bool
         NodeRule::NoNewFunc => is_call(kind),
         NodeRule::NoNewObject => is_new(kind),
         NodeRule::NoNewWrappers => is_new(kind),
+        NodeRule::NoPlusplus => is_update(kind),
         NodeRule::NoProto => is_member_expression(kind),
         NodeRule::NoPrototypeBuiltins => is_plain_call(kind),
         NodeRule::NoReturnAwait => is_await(kind),
@@ -387,6 +400,7 @@ pub(crate) fn looks(rule: NodeRule, kind: Kind) -> bool
         NodeRule::NoSelfCompare => is_binary(kind),
         NodeRule::NoSetterReturn => is_return(kind),
         NodeRule::NoSparseArrays => is_array(kind),
+        NodeRule::NoTernary => is_conditional(kind),
         NodeRule::NoThrowLiteral => is_throw(kind),
         NodeRule::NoUndefInit => is_declarator(kind),
         NodeRule::NoUnneededTernary => is_conditional(kind),
@@ -444,6 +458,7 @@ pub(crate) fn holds(
             && (is_minus_zero(node.part(0)) || is_minus_zero(node.part(1))),
         NodeRule::NoConstantBinaryExpression => is_constant_operation(node),
         NodeRule::NoConstantCondition => is_constant_test(node),
+        NodeRule::NoContinue => true,
         NodeRule::NoDebugger => true,
         NodeRule::NoEmpty => is_empty_node(options, source, around, node),
         NodeRule::NoEmptyPattern => is_empty(node),
@@ -463,6 +478,7 @@ pub(crate) fn holds(
         NodeRule::NoNewFunc => is_name(node.part(0), "Function"),
         NodeRule::NoNewObject => is_name(node.part(0), "Object"),
         NodeRule::NoNewWrappers => is_wrapper(node.part(0)),
+        NodeRule::NoPlusplus => true,
         NodeRule::NoProto => is_key_part(node.part(1), node.flags().computed, "__proto__"),
         NodeRule::NoPrototypeBuiltins => is_builtin_test(unchained(node.part(0))),
         NodeRule::NoReturnAwait => around.is_returned(),
@@ -471,6 +487,7 @@ pub(crate) fn holds(
             && are_same(node.part(0), node.part(1)),
         NodeRule::NoSetterReturn => around.in_setter && node.part(0).is_some(),
         NodeRule::NoSparseArrays => any_part(PartTest::IsGap, node),
+        NodeRule::NoTernary => true,
         NodeRule::NoThrowLiteral => throws_no_error(node),
         NodeRule::NoUndefInit => !around.remark.is_const()
             && is_identifier(node.part(0))
@@ -591,6 +608,7 @@ pub(crate) fn words(rule: NodeRule, node: Node) -> &'static str
         NodeRule::NoCompareNegZero => "no comparison tells -0 from 0",
         NodeRule::NoConstantBinaryExpression => "constant operation",
         NodeRule::NoConstantCondition => "constant condition",
+        NodeRule::NoContinue => "continue",
         NodeRule::NoDebugger => "debugger statement",
         NodeRule::NoEmpty => empty_words(node.kind()),
         NodeRule::NoEmptyPattern => "empty pattern",
@@ -609,6 +627,7 @@ pub(crate) fn words(rule: NodeRule, node: Node) -> &'static str
         NodeRule::NoNewFunc => "code from text",
         NodeRule::NoNewObject => "use an object literal",
         NodeRule::NoNewWrappers => "wrapper object",
+        NodeRule::NoPlusplus => "use an assignment",
         NodeRule::NoProto => "use Object.getPrototypeOf",
         NodeRule::NoPrototypeBuiltins => "call it by Object.prototype",
         NodeRule::NoReturnAwait => "await of what is returned",
@@ -616,6 +635,7 @@ pub(crate) fn words(rule: NodeRule, node: Node) -> &'static str
         NodeRule::NoSelfCompare => "both sides are the same",
         NodeRule::NoSetterReturn => "setter returns a value",
         NodeRule::NoSparseArrays => "array with a hole",
+        NodeRule::NoTernary => "conditional expression",
         NodeRule::NoThrowLiteral => "throw an Error",
         NodeRule::NoUndefInit => "undefined anyway",
         NodeRule::NoUnneededTernary => "the test says it",

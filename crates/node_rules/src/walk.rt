@@ -1,12 +1,13 @@
 //! One walk over the tree, in the order of the source, for any list of rules.
 
-ghost use Rattle.std.specs.Prelude.{◌≡◌, ◌++◌, IfSome, None, OnOk, Some, true};
+ghost use Rattle.std.specs.Prelude.{◌≡◌, ◌++◌, OnOk, true};
 ghost use Rattle.tree.specs.Node.{list_parts, node_tree};
-ghost use Rattle.tree.specs.Tree.{part_at};
+ghost use Rattle.tree.specs.Tree.{parts_of};
 ghost use Rattle.rule_words.specs.Appends.{Grows};
-ghost use Rattle.node_rules.specs.Due.{IsPassed, of_due};
+ghost use Rattle.node_rules.specs.Arounds.{at_place};
+ghost use Rattle.node_rules.specs.Due.{are_silent, is_silent, of_due};
 ghost use Rattle.node_rules.specs.Found.{found_by_rules};
-ghost use Rattle.node_rules.specs.Over.{over_nodes};
+ghost use Rattle.node_rules.specs.Over.{over_nodes, over_parts};
 ghost use Rattle.node_rules.specs.Rows.{of_node, of_rules};
 
 use crate::around::Around;
@@ -51,52 +52,55 @@ pub fn push_found(
         source,
         alloc,
     };
-    push_nodes(walk, Around::root(), program.root(), out)
+    let around = Around::root();
+    push_nodes(&walk, &around, 0, program.root(), out)
 }
 
-/// Appends what rules report of a node and of all nodes below it.
-#[tactic(auto, using(tree::proofs::PartWalk::part_steps))]
+/// Appends what rules report of a node and of all nodes below it. The node is the part at this place of what stands round it.
+#[cycle(walking)]
+#[inline(always)]
 fn push_nodes(
-    walk: NodeWalk,
-    around: Around,
+    walk: &NodeWalk,
+    around: &Around,
+    place: usize,
     node: Node,
     out: &mut Vec<Report>,
 ) -> Result<(), AllocError>
-    ensures found { OnOk result (out.new.items ≡ out.old.items ++ over_nodes (of_due walk.entry.options walk.entry.source.now walk.entry.due.now) around (node_tree node.entry)) }
+    ensures found { OnOk result (out.new.items ≡ out.old.items ++ over_nodes (of_due walk.now.options walk.now.source.now walk.now.due.now) (at_place around.now place) (node_tree node.entry)) }
     ensures kept { Grows out.old.items out.new.items }
 {
-    push_due(walk, around, node, out)?;
-    let inner = around.inside(node);
-    let parts = node.parts();
-    for index in 0..parts.len() {
-        if let Some(part) = looked_at(walk.due, parts, index) {
-            push_nodes(walk, inner.at_place(index), part, out)?;
+    push_due(walk, around, place, node, out)?;
+    if are_passed(walk.due, node.parts()) {
+        return Ok(());
+    }
+    let inner = around.inside(place, node);
+    push_below(walk, &inner, node, out)
+}
+
+/// Appends what they report of the nodes below a node, by what stands round its parts.
+#[cycle(walking)]
+#[tactic(auto, using(tree::proofs::PartWalk::part_steps))]
+fn push_below(
+    walk: &NodeWalk,
+    around: &Around,
+    node: Node,
+    out: &mut Vec<Report>,
+) -> Result<(), AllocError>
+    ensures found { OnOk result (out.new.items ≡ out.old.items ++ over_parts (of_due walk.now.options walk.now.source.now walk.now.due.now) around.now 0 (parts_of (node_tree node.entry))) }
+    ensures kept { Grows out.old.items out.new.items }
+{
+    for place in 0..node.part_count() {
+        if let Some(part) = node.part(place) {
+            push_nodes(walk, around, place, part, out)?;
         }
     }
     Ok(())
 }
 
-/// The part at a place, if rules may report of it or of a node below: none for a gap, and for a node without parts at which no rule
-/// looks, such as a name.
-#[inline]
-fn looked_at<'t, 's>(due: &DueRules, parts: NodeList<'t, 's>, index: usize) -> Option<Node<'t, 's>>
-    ensures given { IfSome result (λ part. Some (node_tree part) ≡ part_at (list_parts parts.entry) index) }
-    ensures passed { result ≡ None → IsPassed due.now (part_at (list_parts parts.entry) index) }
-{
-    let Some(part) = parts.get(index) else {
-        return None;
-    };
-    if is_passed(due, part) {
-        None
-    } else {
-        Some(part)
-    }
-}
-
 /// Whether a node has no parts, and no rule looks at it.
 #[inline]
-fn is_passed(due: &DueRules, node: Node) -> bool
-    ensures { result ≡ true → IsPassed due.now (Some (node_tree node.entry)) }
+fn is_silent_leaf(due: &DueRules, node: Node) -> bool
+    ensures { result ≡ true → is_silent due.now (node_tree node.entry) ≡ true }
 {
     if node.part_count() > 0 {
         return false;
@@ -104,29 +108,77 @@ fn is_passed(due: &DueRules, node: Node) -> bool
     due.at(node.kind()).is_empty()
 }
 
+/// Whether none of these parts has parts, and no rule looks at one.
+#[inline]
+#[tactic(auto, using(tree::proofs::PartWalk::part_steps))]
+fn are_silent_leaves(due: &DueRules, parts: NodeList) -> bool
+    ensures { result ≡ true → are_silent due.now (list_parts parts.entry) ≡ true }
+{
+    for index in 0..parts.len() {
+        if let Some(part) = parts.get(index) {
+            if !is_silent_leaf(due, part) {
+                return false;
+            }
+        }
+    }
+    true
+}
+
+/// Whether no rule looks at a node, nor at its parts, none of which has parts, as in a member of a name.
+#[inline]
+fn is_passed(due: &DueRules, node: Node) -> bool
+    ensures { result ≡ true → is_silent due.now (node_tree node.entry) ≡ true }
+{
+    if !due.at(node.kind()).is_empty() {
+        return false;
+    }
+    are_silent_leaves(due, node.parts())
+}
+
+/// Whether the walk passes by all of these parts.
+#[inline]
+#[tactic(auto, using(tree::proofs::PartWalk::part_steps))]
+fn are_passed(due: &DueRules, parts: NodeList) -> bool
+    ensures { result ≡ true → are_silent due.now (list_parts parts.entry) ≡ true }
+{
+    for index in 0..parts.len() {
+        if let Some(part) = parts.get(index) {
+            if !is_passed(due, part) {
+                return false;
+            }
+        }
+    }
+    true
+}
+
 /// Appends what the rules that look at a node report of it.
+#[inline]
 fn push_due(
-    walk: NodeWalk,
-    around: Around,
+    walk: &NodeWalk,
+    around: &Around,
+    place: usize,
     node: Node,
     out: &mut Vec<Report>,
 ) -> Result<(), AllocError>
-    ensures found { OnOk result (out.new.items ≡ out.old.items ++ of_due walk.entry.options walk.entry.source.now walk.entry.due.now around (node_tree node.entry)) }
+    ensures found { OnOk result (out.new.items ≡ out.old.items ++ of_due walk.now.options walk.now.source.now walk.now.due.now (at_place around.now place) (node_tree node.entry)) }
     ensures kept { Grows out.old.items out.new.items }
 {
     let due = walk.due.at(node.kind());
-    push_each(walk, due, around, node, out)
+    if due.is_empty() {
+        return Ok(());
+    }
+    push_each(walk, due, around.at_place(place), node, out)
 }
 
 /// Appends what rules report of a node, rule after rule.
 fn push_each(
-    walk: NodeWalk,
+    walk: &NodeWalk,
     rules: &[NodeRule],
     around: Around,
     node: Node,
     out: &mut Vec<Report>,
 ) -> Result<(), AllocError>
-    ensures found { OnOk result (out.new.items ≡ out.old.items ++ of_rules walk.entry.options walk.entry.source.now rules.now around (node_tree node.entry)) }
+    ensures found { OnOk result (out.new.items ≡ out.old.items ++ of_rules walk.now.options walk.now.source.now rules.now around (node_tree node.entry)) }
     ensures kept { Grows out.old.items out.new.items }
 {
     for rule in rules {
@@ -137,13 +189,13 @@ fn push_each(
 
 /// Appends what one rule reports of a node.
 fn push_one(
-    walk: NodeWalk,
+    walk: &NodeWalk,
     rule: NodeRule,
     around: Around,
     node: Node,
     out: &mut Vec<Report>,
 ) -> Result<(), AllocError>
-    ensures found { OnOk result (out.new.items ≡ out.old.items ++ of_node walk.entry.options walk.entry.source.now rule around (node_tree node.entry)) }
+    ensures found { OnOk result (out.new.items ≡ out.old.items ++ of_node walk.now.options walk.now.source.now rule around (node_tree node.entry)) }
     ensures kept { Grows out.old.items out.new.items }
 {
     if looks(rule, node.kind()) && holds(walk.options, walk.source, rule, around, node) {

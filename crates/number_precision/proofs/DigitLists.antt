@@ -1,11 +1,10 @@
 -- Digits without their zeros, as loops go over them.
-use Rattle.std.proofs.Common.{◌≡◌, ℕ, suc, ◌+◌, ◌<◌, ◌≤◌, List, [], ◌∷◌, ◌++◌, true, false, length, drop, take, get_or, refl, sym, ap, ◌∙◌, add-one, append_assoc, take-suc, Bool, ◌*◌, subst, arith, eqb-true}
-use Rattle.std.proofs.Math.Seq.{drop-cons}
+use Rattle.std.proofs.Common.{◌≡◌, ℕ, suc, ◌+◌, ◌<◌, ◌≤◌, List, [], ◌∷◌, ◌++◌, true, false, length, take, get_or, refl, sym, ap, ◌∙◌, add-one, take-suc, Bool, ◌*◌, subst, arith, eqb-true}
 use Rattle.std.proofs.lemmas.Bool.Decides.{nat_tests}
 use Rattle.tokens.specs.Alphabet.{one_of}
-use Rattle.number_precision.specs.Digits.{behind_digit, trimmed, without_separators, without_zeros}
+use Rattle.number_precision.specs.Digits.{behind_digit, trimmed, without_zeros}
 use Rattle.std.specs.Prelude.{⊤, if◌then◌else◌}
-use Rattle.std.specs.Char.{digit_value}
+use Rattle.std.specs.Char.{digit_value, is_ascii_digit}
 use Rattle.std.specs.Str.Parse.{AllDigits, digits_value, digits_value_after}
 use Rattle.number_precision.specs.Precision.{significant_of}
 
@@ -20,24 +19,6 @@ behind-kept x (y ∷ ys) c = refl
 pub trimmed-kept : (xs : List ℕ) (c : ℕ) → one_of "0" c ≡ false → trimmed (xs ++ (c ∷ [])) ≡ xs ++ (c ∷ [])
 trimmed-kept [] c z = ap (λ b. if b then [] else c ∷ []) z
 trimmed-kept (x ∷ xs) c z = ap (behind_digit x) (trimmed-kept xs c z) ∙ behind-kept x xs c
-
-module _ (cs : List ℕ) (i d : ℕ) (l : i < length cs) where
-  split : drop i cs ≡ get_or cs i d ∷ drop (i + 1) cs
-  split = drop-cons cs i d l ∙ ap (λ n. get_or cs i d ∷ drop n cs) (sym (add-one i))
-
-  pub zero-turn : one_of "0" (get_or cs i d) ≡ true → without_zeros (drop (i + 1) cs) ≡ without_zeros (drop i cs)
-  zero-turn z = sym (ap (λ b. if b then without_zeros (drop (i + 1) cs) else get_or cs i d ∷ drop (i + 1) cs) z) ∙ ap without_zeros (sym split)
-
-  pub zero-end : one_of "0" (get_or cs i d) ≡ false → drop i cs ≡ without_zeros (drop i cs)
-  zero-end z = split ∙ sym (ap (λ b. if b then without_zeros (drop (i + 1) cs) else get_or cs i d ∷ drop (i + 1) cs) z) ∙ ap without_zeros (sym split)
-
-  pub separator-turn : one_of "_" (get_or cs i d) ≡ true → without_separators (drop (i + 1) cs) ≡ without_separators (drop i cs)
-  separator-turn z = sym (ap (λ b. if b then without_separators (drop (i + 1) cs) else get_or cs i d ∷ without_separators (drop (i + 1) cs)) z) ∙ ap without_separators (sym split)
-
-  pub other-turn : one_of "_" (get_or cs i d) ≡ false → (acc : List ℕ) → (acc ++ (get_or cs i d ∷ [])) ++ without_separators (drop (i + 1) cs) ≡ acc ++ without_separators (drop i cs)
-  other-turn z acc =
-      append_assoc acc (get_or cs i d ∷ []) (without_separators (drop (i + 1) cs))
-      ∙ ap (λ ys. acc ++ ys) (sym (ap (λ b. if b then without_separators (drop (i + 1) cs) else get_or cs i d ∷ without_separators (drop (i + 1) cs)) z) ∙ ap without_separators (sym split))
 
 -- the first digits, up to one before a place
 module _ (cs : List ℕ) (i d : ℕ) (l : i < length cs) where
@@ -61,7 +42,7 @@ pub record Left (ds kept : List ℕ) : Type 0 where
   pub shorter : length kept ≤ length ds
   pub nothing : length kept ≡ 0 → digits_value 10 ds ≡ 0
 
-zero_first : (c : ℕ) (cs : List ℕ) → one_of "0" c ≡ true → digits_value 10 (c ∷ cs) ≡ digits_value 10 cs
+pub zero_first : (c : ℕ) (cs : List ℕ) → one_of "0" c ≡ true → digits_value 10 (c ∷ cs) ≡ digits_value 10 cs
 zero_first c cs z = ap (λ x. digits_value_after 10 (0 * 10 + digit_value x) cs) (eqb-true c 48 z)
 
 by_first : (c : ℕ) (cs : List ℕ) (b : Bool) → one_of "0" c ≡ b → AllDigits 10 (c ∷ cs) → Left cs (without_zeros cs) → Left (c ∷ cs) (if b then without_zeros cs else c ∷ cs)
@@ -143,3 +124,9 @@ first_positive ds (c ∷ cs) left s = behind_nothing (digit_value c) (positive_d
 pub joined-digits : (xs ys : List ℕ) → AllDigits 10 xs → AllDigits 10 ys → AllDigits 10 (xs ++ ys)
 joined-digits [] ys a b = b
 joined-digits (x ∷ xs) ys a b = (a.0, joined-digits xs ys a.1 b)
+
+pub digit_range : (c : ℕ) → is_ascii_digit c ≡ true → digit_value c < 10
+digit_range c d = grind (arith, nat_tests)
+
+pub one_more : (cs : List ℕ) (i d : ℕ) → i < length cs → AllDigits 10 (take i cs) → digit_value (get_or cs i d) < 10 → AllDigits 10 (take (i + 1) cs)
+one_more cs i d l a h = subst (AllDigits 10) (sym (ap (λ n. take n cs) (add-one i) ∙ take-suc cs i d l)) (joined-digits (take i cs) (get_or cs i d ∷ []) a (h, tt))

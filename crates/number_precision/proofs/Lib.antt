@@ -4,3 +4,4 @@ mod FloatDigits
 mod Nearness
 mod Far
 mod Floats
+mod ShortIntegers

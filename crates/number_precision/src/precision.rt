@@ -1,6 +1,6 @@
 //! Whether a number literal loses digits.
 
-ghost use Rattle.std.specs.Prelude.{◌≡◌, ◌+◌, ◌^◌, ◌<◌, ◌≤◌, ◌++◌, false, length, take, IfNone, IfOk, IfSome};
+ghost use Rattle.std.specs.Prelude.{◌≡◌, ◌+◌, ◌^◌, ◌<◌, ◌≤◌, ◌++◌, false, true, length, take, IfNone, IfOk, IfSome};
 ghost use Rattle.std.specs.Float.{binary64};
 ghost use Rattle.std.specs.Float.Numeral.{nearest_float, scan_numeral, tens_down, tens_up};
 ghost use Rattle.std.specs.Str.Parse.{AllDigits, digits_value};
@@ -89,6 +89,21 @@ fn loses_decimal(alloc: Global, text: &[u8]) -> Result<bool, AllocError>
     Ok(!is_kept(&numeral, significant, dropped))
 }
 
+/// Whether a text is an integer of at most fifteen digits, which no number loses.
+fn is_short_integer(text: &[u8]) -> bool
+    ensures { result ≡ true → AllDigits 10 text.now × (length text.now ≤ 15) }
+{
+    if text.len() > 15 {
+        return false;
+    }
+    for index in 0..text.len() {
+        if !text[index].is_ascii_digit() {
+            return false;
+        }
+    }
+    true
+}
+
 /// Whether a number literal loses digits: whether its value, rounded to a Number and written with as many digits, is another one.
 ///
 /// # Errors
@@ -97,6 +112,9 @@ fn loses_decimal(alloc: Global, text: &[u8]) -> Result<bool, AllocError>
 pub fn loses_precision(alloc: Global, text: &str) -> Result<bool, AllocError>
     ensures { IfOk result (λ b. b ≡ loses_precision text.now) }
 {
+    if is_short_integer(text.as_bytes()) {
+        return Ok(false);
+    }
     let text = without_separators(alloc, text.as_bytes())?;
     let letter = match text.get(1) {
         Some(letter) => *letter,

@@ -1,2 +1,3 @@
+mod PublicScripts
 mod Sets
 mod Walks

@@ -1,11 +1,13 @@
 //! One walk over the nodes of a script.
 
 ghost use Rattle.std.specs.Prelude.{◌≡◌, ◌++◌, option_map, OnOk};
+ghost use Rattle.tree.specs.Flat.{post_order};
 ghost use Rattle.tree.specs.Node.{node_tree};
 ghost use Rattle.tree.specs.Tree.{kind_of, parts_of, text_of};
 ghost use Rattle.name_tables.specs.PatternParts.{at_part};
 ghost use Rattle.rule_words.specs.Appends.{Grows};
 ghost use Rattle.private_members.specs.Found.{found, found_in};
+ghost use Rattle.private_members.specs.Sets.{has_private};
 ghost use Rattle.private_members.specs.Uses.{is_class_body, uses_in, uses_of};
 
 use crate::members::leave_class;
@@ -32,12 +34,27 @@ pub fn push_found(alloc: Global, program: &Program, out: &mut Vec<Report>) -> Re
     ensures found { OnOk result (out.new.items ≡ out.old.items ++ found program.now) }
     ensures kept { Grows out.old.items out.new.items }
 {
+    if !has_private(program) {
+        return Ok(());
+    }
     let walk = Walk {
         alloc,
         key: key_of(program),
     };
     let mut uses = Vec::new(alloc);
     push_node(walk, Standing::Other, program.root(), &mut uses, out)
+}
+
+/// Whether a script has a private name: most have none, and are left at once.
+fn has_private(program: &Program) -> bool
+    ensures { result ≡ has_private (post_order program.now) }
+{
+    for number in 0..program.node_count() {
+        if program.node(number).kind().is_private() {
+            return true;
+        }
+    }
+    false
 }
 
 /// The key of sets of private names, drawn from all of a script.

@@ -1,2 +1,3 @@
 pub mod Passes
+mod Silent
 pub mod Together

@@ -1,5 +1,5 @@
 -- Rules that ask what names mean, row by row: the name, which references and which declarations a rule reports, and what it says of them.
-use Rattle.std.specs.Prelude.{ℕ, Bool, true, false, not, ◌&&◌, ◌||◌, nat_lt, List, Option, Some, None, is_none, codes}
+use Rattle.std.specs.Prelude.{ℕ, Bool, true, false, not, ◌&&◌, ◌||◌, nat_lt, List, Option, Some, None, is_none, is_some, codes}
 use Rattle.language.specs.Vocabulary.{is}
 use Rattle.scopes.specs.declared.kind.BindingKind.{BindingKind}
 use Rattle.scopes.specs.Bindings.{Binding}
@@ -54,6 +54,10 @@ of_reference profile NoRedeclare r b = false
 of_reference profile NoShadowRestrictedNames r b = false
 of_reference profile NoUndefined r b = is r.name "undefined"
 of_reference profile NoUseBeforeDefine r b = is_behind r.start b
+
+-- no rule reports a reference: it means a binding that isn't declared behind it, isn't written, and isn't called `undefined`
+abbrev pub is_silent : Reference → Option Binding → Bool
+is_silent r b = (is_some r.meaning && not r.writes) && (not (is r.name "undefined") && not (is_behind r.start b))
 
 -- a name that is declared here has a meaning already: by another declaration, or, in the global scope, by the language
 abbrev pub declares_again : Profile → Standing → List ℕ → Bool

@@ -3,7 +3,7 @@
 
 ghost use Rattle.std.specs.Prelude.{◌≡◌, option_map};
 ghost use Rattle.scopes.specs.Shown.{reference_shown, shown};
-ghost use Rattle.reference_rules.specs.Rows.{again_words, declares_again, is_global, of_declaration, of_reference, says, says_declared};
+ghost use Rattle.reference_rules.specs.Rows.{again_words, declares_again, is_global, is_silent, of_declaration, of_reference, says, says_declared};
 
 use crate::built_in::is_built_in_for;
 use crate::tests::{
@@ -136,6 +136,16 @@ pub(crate) fn of_reference(
         ReferenceRule::NoUndefined => name == "undefined",
         ReferenceRule::NoUseBeforeDefine => is_behind(reference.start, binding),
     }
+}
+
+/// Whether rules say nothing of a reference, as of most: it means a binding that isn't declared behind it, isn't written, and isn't called
+/// `undefined`.
+#[inline]
+pub(crate) fn is_silent(reference: Reference, binding: Option<Binding>) -> bool
+    ensures { result ≡ is_silent (reference_shown reference.entry) (option_map shown binding.entry) }
+{
+    (reference.meaning.is_some() && !reference.writes)
+        && (reference.name != "undefined" && !is_behind(reference.start, binding))
 }
 
 /// Whether a rule reports a declaration, by where that stands.

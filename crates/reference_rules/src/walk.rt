@@ -6,7 +6,8 @@ ghost use Rattle.rule_words.specs.Appends.{Grows};
 ghost use Rattle.reference_rules.specs.Found.{by_declaration, by_reference, each, found_by_rules, meant, named, over_declarations, over_references, over_scope, over_scopes, standing_in};
 
 use crate::reference_rule::{
-    Profile, ReferenceRule, Standing, of_declaration, of_reference, words, words_declared,
+    Profile, ReferenceRule, Standing, is_silent, of_declaration, of_reference, words,
+    words_declared,
 };
 use rule_words::{Report, push_report, quoted};
 use scopes::{Binding, Reference, Scopes};
@@ -74,6 +75,9 @@ fn push_reference(
     ensures found { OnOk result (out.new.items ≡ out.old.items ++ each (by_reference pass.entry.profile (reference_shown reference.entry) (option_map shown binding.entry)) pass.entry.rules.now) }
     ensures kept { Grows out.old.items out.new.items }
 {
+    if is_silent(reference, binding) {
+        return Ok(());
+    }
     for rule in pass.rules {
         push_by_reference(pass, *rule, reference, binding, out)?;
     }

@@ -123,7 +123,7 @@ ordered_more least most width i low high n m lt same e f eq =
 -- ---- a number beside another
 
 pub exceeds_now : (digits : List ℕ) (i value limit : ℕ) → value ≡ decimal_value 0 (take i digits) → i < length digits → limit < 10 * value + (get_or digits i 0 - 0x30) →
-    true ≡ not (nat_le (decimal_value 0 digits) limit)
+    nat_le (decimal_value 0 digits) limit ≡ false
 exceeds_now digits i value limit e n lt =
     let c = get_or digits i 0 in
     let whole : decimal_value 0 digits ≡ decimal_value (10 * value + (c - 0x30)) (drop (i + 1) digits) =
@@ -131,12 +131,12 @@ exceeds_now digits i value limit e n lt =
     ∙ ap (decimal_value value) (drop_more digits i 0 n) in
     let g = decimal_grows (10 * value + (c - 0x30)) (drop (i + 1) digits) in
     large (decimal_value 0 digits) limit (omega arith) where
-      large : (x y : ℕ) → y < x → true ≡ not (nat_le x y)
+      large : (x y : ℕ) → y < x → nat_le x y ≡ false
       large x y h = grind (arith, nat_tests)
 
 -- the same at the bytes of a text
 pub exceeds_at : (digits bytes : List ℕ) (i value digit limit : ℕ) → bytes ≡ digits → value ≡ decimal_value 0 (take i digits) → i < length bytes → digit ≡ get_or bytes i 0 - 0x30 →
-    limit < 10 * value + digit → true ≡ not (nat_le (decimal_value 0 digits) limit)
+    limit < 10 * value + digit → nat_le (decimal_value 0 digits) limit ≡ false
 exceeds_at digits bytes i value digit limit s e n d lt =
     exceeds_now digits i value limit e (subst (λ x. i < length x) s n) (subst (λ k. limit < 10 * value + k) (d ∙ ap (λ x. get_or x i 0 - 0x30) s) lt)
 
@@ -145,9 +145,5 @@ pub exceeds_more : (digits : List ℕ) (i value : ℕ) → value ≡ decimal_val
 exceeds_more digits i value e n =
     ap (λ x. 10 * x + (get_or digits i 0 - 0x30)) e ∙ sym (ap (decimal_value 0) (take_more digits i 0 n) ∙ decimal_append 0 (take i digits) (get_or digits i 0 ∷ []))
 
-pub exceeds_end : (digits : List ℕ) (i value limit : ℕ) → value ≡ decimal_value 0 (take i digits) → length digits ≤ i → value ≤ limit → false ≡ not (nat_le (decimal_value 0 digits) limit)
-exceeds_end digits i value limit e n le =
-    let f = ap (decimal_value 0) (take_all i digits n) in
-    small (decimal_value 0 digits) limit (omega arith) where
-      small : (x y : ℕ) → x ≤ y → false ≡ not (nat_le x y)
-      small x y h = grind (arith, nat_tests)
+pub exceeds_whole : (digits : List ℕ) (i value : ℕ) → value ≡ decimal_value 0 (take i digits) → length digits ≤ i → value ≡ decimal_value 0 digits
+exceeds_whole digits i value e n = e ∙ ap (decimal_value 0) (take_all i digits n)

@@ -10,7 +10,7 @@ use Rattle.tokens.specs.Tokens.{size}
 use Rattle.tokens.specs.Reading.{behind}
 use Rattle.tokens.specs.Scanned.{Passed}
 use Rattle.tokens.proofs.PassedCharacters.{passed_on}
-use Rattle.regular_expressions.specs.Patterns.{before_slash, behind_slash, pattern_fault, first_fault}
+use Rattle.regular_expressions.specs.Patterns.{before_slash, behind_slash, pattern_of, pattern_fault, first_fault}
 use Rattle.regular_expressions.proofs.Productions.{passed_chars}
 
 abbrev has_slash : List ℕ → Bool
@@ -153,3 +153,9 @@ pub literal_fault : (text : List ℕ) (first at c : ℕ) (has_u : Bool) (f : Opt
 literal_fault text first at c has_u f u p q e g =
     in_literal text first c f p
     (g ∙ ap (λ b. pattern_fault b (chars (slice_range text first at))) e ∙ ap (pattern_fault (has_flag (behind text first))) (passed_chars text first at (before_slash (behind text first)) u p.place q))
+
+-- ---- the pattern of a literal
+
+pub literal_pattern : (text : List ℕ) (first at c : ℕ) → IsUtf8 text → Passed text 0 first (c ∷ []) → Passed text first at (before_slash (behind text first)) →
+    chars (slice_range text first at) ≡ pattern_of (chars text)
+literal_pattern text first at c u p q = passed_chars text first at (before_slash (behind text first)) u p.place q ∙ sym (ap pattern_of p.split)

@@ -105,8 +105,8 @@ fn class_escape(text: &str, is_unicode: bool, at: usize) -> Option<Valued>
     escape_by(text, is_unicode, first.c, first.end)
 }
 
-/// ClassAtomNoDash by its first character.
-fn class_atom(text: &str, is_unicode: bool, first: CharAt) -> Option<Valued>
+/// ClassAtomNoDash by its first character: what it stands for, and the place behind it; none where no atom stands.
+pub fn class_atom(text: &str, is_unicode: bool, first: CharAt) -> Option<Valued>
     requires { IsPlace text.now first.end }
     ensures some { IfSome result (λ r. IsRead (class_atom is_unicode first.c (behind text.now first.end)) r.value text.now first.end r.end) }
     ensures none { IfNone result (class_atom is_unicode first.c (behind text.now first.end) ≡ None) }

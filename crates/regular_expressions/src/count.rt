@@ -1,6 +1,6 @@
 //! DecimalDigits, and Quantifier behind its `{` (22.2.1).
 
-ghost use Rattle.std.specs.Prelude.{◌≡◌, ◌<◌, ◌≤◌, get_or, not, nat_le, length, None, IfSome, IfNone, IsTrue};
+ghost use Rattle.std.specs.Prelude.{◌≡◌, ◌<◌, ◌≤◌, get_or, false, not, nat_le, length, None, IfSome, IfNone, IsTrue};
 ghost use Rattle.std.specs.List.{list_all};
 ghost use Rattle.source_text.specs.Source.{IsPlace};
 ghost use Rattle.tokens.specs.Alphabet.{is_decimal_digit};
@@ -19,7 +19,7 @@ pub(crate) fn is_decimal_digit(c: char) -> bool
 }
 
 /// Where the decimal digits from this place on end.
-pub(crate) fn digits_end(text: &str, at: usize) -> usize
+pub fn digits_end(text: &str, at: usize) -> usize
     requires { IsPlace text.now at }
     ensures { IsRun is_decimal_digit text.now at result }
 {
@@ -64,23 +64,32 @@ fn is_ordered(least: &[u8], most: &[u8]) -> bool
     true
 }
 
-/// Whether a number in decimal digits is greater than this one.
-#[tactic(auto, using(crate::proofs::Numbers::exceeds_now, crate::proofs::Numbers::exceeds_more, crate::proofs::Numbers::exceeds_end))]
-pub(crate) fn exceeds(digits: &str, limit: usize) -> bool
-    ensures { result ≡ not (nat_le (decimal_value 0 digits.now) limit) }
+/// A number in decimal digits; none if it is greater than this one.
+#[tactic(auto, using(crate::proofs::Numbers::exceeds_now, crate::proofs::Numbers::exceeds_more, crate::proofs::Numbers::exceeds_whole))]
+pub fn number_within(digits: &str, limit: usize) -> Option<usize>
+    ensures some { IfSome result (λ n. n ≡ decimal_value 0 digits.now) }
+    ensures within { IfSome result (λ n. n ≤ limit) }
+    ensures none { IfNone result (nat_le (decimal_value 0 digits.now) limit ≡ false) }
 {
     let mut value = 0usize;
     for &byte in digits.as_bytes() {
         let digit = usize::from(byte.saturating_sub(b'0'));
         if value > limit / 10 {
-            return true;
+            return None;
         }
         if digit > limit - value * 10 {
-            return true;
+            return None;
         }
         value = value * 10 + digit;
     }
-    false
+    Some(value)
+}
+
+/// Whether a number in decimal digits is greater than this one.
+pub(crate) fn exceeds(digits: &str, limit: usize) -> bool
+    ensures { result ≡ not (nat_le (decimal_value 0 digits.now) limit) }
+{
+    number_within(digits, limit).is_none()
 }
 
 /// Behind the `?` that may end a Quantifier.

@@ -13,9 +13,9 @@ use crate::hex::{Number, hex_digits, unicode_escape};
 use crate::property::property;
 use tokens::char_at;
 
-/// What an atom stands for, the value of a character or a class, and the place behind it.
+/// What an atom stands for, the value of a character or, if there is none, a class, and the place behind it.
 #[derive(Clone, Copy)]
-pub(crate) struct Valued {
+pub struct Valued {
     pub value: Option<u32>,
     pub end: usize,
 }

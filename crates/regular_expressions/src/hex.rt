@@ -85,14 +85,14 @@ fn braced(text: &str, at: usize) -> Option<Number>
 }
 
 /// Whether the value is that of a lead surrogate.
-fn is_lead(value: u32) -> bool
+pub fn is_lead(value: u32) -> bool
     ensures { result ≡ is_lead value }
 {
     matches!(value, 0xD800..=0xDBFF)
 }
 
 /// Whether the value is that of a trail surrogate.
-fn is_trail(value: u32) -> bool
+pub fn is_trail(value: u32) -> bool
     ensures { result ≡ is_trail value }
 {
     matches!(value, 0xDC00..=0xDFFF)

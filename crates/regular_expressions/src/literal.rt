@@ -7,7 +7,7 @@ ghost use Rattle.source_text.specs.Source.{IsPlace};
 ghost use Rattle.tokens.specs.Alphabet.{one_of};
 ghost use Rattle.tokens.specs.Reading.{behind};
 ghost use Rattle.tokens.specs.Scanned.{Passed};
-ghost use Rattle.regular_expressions.specs.Patterns.{before_slash, behind_slash, first_fault};
+ghost use Rattle.regular_expressions.specs.Patterns.{before_slash, behind_slash, first_fault, has_u, pattern_of};
 
 use crate::pattern::pattern_fault;
 use std::alloc::{AllocError, Global};
@@ -46,6 +46,32 @@ fn last_slash(text: &str, from: usize) -> Option<LastSlash>
         Some(at) => Some(LastSlash { at, has_u }),
         None => None,
     }
+}
+
+/// The pattern of a literal.
+#[derive(Clone, Copy)]
+pub struct Pattern<'t> {
+    pub text: &'t str,
+    /// Whether the literal's flags have `u`.
+    pub is_unicode: bool,
+}
+
+/// The pattern of a literal; none of a text that is no literal.
+pub fn pattern_of<'t>(literal: &'t str) -> Option<Pattern<'t>>
+    ensures text { IfSome result (λ p. chars p.text.now ≡ pattern_of (chars literal.now)) }
+    ensures unicode { IfSome result (λ p. p.is_unicode ≡ has_u (chars literal.now)) }
+    ensures none { IfNone result (pattern_of (chars literal.now) ≡ []) }
+{
+    let Some(first) = char_at(literal, 0) else {
+        return None;
+    };
+    let Some(slash) = last_slash(literal, first.end) else {
+        return None;
+    };
+    Some(Pattern {
+        text: &literal[first.end..slash.at],
+        is_unicode: slash.has_u,
+    })
 }
 
 /// The place of the first fault of a literal's pattern, in bytes from the literal's start; none if it has none.

@@ -16,7 +16,7 @@ use Rattle.repetition_rules.specs.declared.repetition_rule.RepetitionRule.{Repet
 use Rattle.repetition_rules.specs.Rows.{moot_report, of_test}
 use Rattle.repetition_rules.specs.Written.{written}
 use Rattle.repetition_rules.specs.Tests.{Choice, alone, asked, choices, is_covered_test, is_if, is_logical, moot_among, moot_at, moot_below, moot_tests, never_holds, split, tests, tests_at}
-use Rattle.repetition_rules.specs.Chains.{Asking, Knows, are_full, asked_before, asking, chain_reports, is_all_covered, is_full, is_last_of, is_moot, last_of, moot_reports}
+use Rattle.repetition_rules.specs.Chains.{Asking, Knows, are_full, asked_before, asking, chain_reports, is_all_covered, is_chain, is_full, is_if_at, is_last_of, is_moot, last_of, moot_reports}
 
 all-asked : (before : List Choice) (trees : List Tree) → list_any (λ condition. is_all_covered before condition) (map choices trees) ≡ list_any (λ t. is_covered_test before t) trees
 all-asked before [] = refl
@@ -164,3 +164,40 @@ below-if rule t h = ap (λ b. map (of_test rule) (cond b (moot_at (part_at (part
 
 pub below-other : (rule : RepetitionRule) (t : Tree) → is_if (kind_of t) ≡ false → each_part (chain_reports rule) (parts_of t) ≡ map (of_test rule) (moot_below t)
 below-other rule t h = each-moot rule (parts_of t) ∙ ap (λ b. map (of_test rule) (cond b (moot_at (part_at (parts_of t) 1)) (each_part moot_tests (parts_of t)))) (sym h)
+
+-- Chains of which nothing is reported
+
+pub no-chain : (t : Tree) → is_if (kind_of t) ≡ false → moot_tests t ≡ []
+no-chain t h = ap (λ ts. moot_among [] ts) (tests-none t h)
+
+-- nothing stands before a first test
+uncovered : (t : Tree) → is_covered_test [] t ≡ false
+uncovered t = let i = split-first (codes "||") t in ap (λ xs. list_all (λ choice. false) (map asked xs)) i.1.1
+
+all-uncovered : (ts : List Tree) → list_any (λ t. is_covered_test [] t) ts ≡ false
+all-uncovered [] = refl
+all-uncovered (t ∷ ts) = ap (λ b. b || list_any (λ t. is_covered_test [] t) ts) (uncovered t) ∙ all-uncovered ts
+
+first-holds : (t : Tree) → never_holds [] t ≡ false
+first-holds t = ap (λ b. b || list_any (λ operand. is_covered_test [] operand) (split (codes "&&") t)) (uncovered t) ∙ all-uncovered (split (codes "&&") t)
+
+one-test : (o : Option Tree) → moot_among [] (alone o) ≡ []
+one-test None = refl
+one-test (Some t) = ap (λ b. cond b (t ∷ []) [] ++ []) (first-holds t)
+
+tests-alone : (t : Tree) (o : Option Tree) → o ≡ part_at (parts_of t) 2 → is_if_at o ≡ false → tests_at 2 (parts_of t) ≡ []
+tests-alone t None e h = tests-no-place 2 (parts_of t) e
+tests-alone t (Some u) e h = tests-place 2 (parts_of t) u e ∙ tests-none u h
+
+single : (t : Tree) → is_if (kind_of t) ≡ true → is_if_at (part_at (parts_of t) 2) ≡ false → moot_tests t ≡ []
+single t h g =
+    ap (λ ts. moot_among [] ts) (tests-both t h ∙ ap (λ l. alone (part_at (parts_of t) 0) ++ l) (tests-alone t (part_at (parts_of t) 2) refl g) ∙ append-nil (alone (part_at (parts_of t) 0)))
+    ∙ one-test (part_at (parts_of t) 0)
+
+by-kind : (t : Tree) (b : Bool) → is_if (kind_of t) ≡ b → (b && is_if_at (part_at (parts_of t) 2)) ≡ false → moot_tests t ≡ []
+by-kind t true e h = single t e h
+by-kind t false e h = no-chain t e
+
+-- a node at which no chain of more than one test begins
+pub short-chain : (t : Tree) → is_chain t ≡ false → moot_tests t ≡ []
+short-chain t h = by-kind t (is_if (kind_of t)) refl h

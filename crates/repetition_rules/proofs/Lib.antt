@@ -1,3 +1,4 @@
+mod BareNodes
 mod Behind
 mod CodeSearch
 mod Digits

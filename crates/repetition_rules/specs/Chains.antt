@@ -10,7 +10,7 @@ use Rattle.rule_words.specs.Reports.{Report}
 use Rattle.repetition_rules.specs.declared.conditions.Sides.{Sides}
 use Rattle.repetition_rules.specs.declared.repetition_rule.RepetitionRule.{RepetitionRule}
 use Rattle.repetition_rules.specs.Rows.{moot_report, of_test}
-use Rattle.repetition_rules.specs.Tests.{Choice, choices, is_covered, is_logical, moot_tests, split}
+use Rattle.repetition_rules.specs.Tests.{Choice, choices, is_covered, is_if, is_logical, moot_tests, split}
 
 abbrev pub both : Option Tree → Option Tree → Option (Tree × Tree)
 both (Some left) (Some right) = Some (left, right)
@@ -75,3 +75,12 @@ moot_reports rule before (x ∷ xs) = moot_report (is_moot before x) rule x.star
 -- of the chain that begins with a node
 abbrev pub chain_reports : RepetitionRule → Tree → List Report
 chain_reports rule tree = map (of_test rule) (moot_tests tree)
+
+-- a part that may be missing is an `if`
+abbrev pub is_if_at : Option Tree → Bool
+is_if_at None = false
+is_if_at (Some tree) = is_if (kind_of tree)
+
+-- a chain of more than one test begins here
+abbrev pub is_chain : Tree → Bool
+is_chain tree = is_if (kind_of tree) && is_if_at (part_at (parts_of tree) 2)

@@ -2,6 +2,7 @@ pub mod Entries
 pub mod Keys
 pub mod Written
 pub mod Tests
+pub mod Bare
 pub mod Chains
 pub mod Members
 pub mod Rows

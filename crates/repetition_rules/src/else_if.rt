@@ -6,7 +6,7 @@ ghost use Rattle.tree.specs.Node.{node_tree};
 ghost use Rattle.rule_words.specs.Appends.{Grows};
 ghost use Rattle.repetition_rules.specs.Rows.{moot_report, of_test};
 ghost use Rattle.repetition_rules.specs.Tests.{alone, is_covered, is_if, moot_at, moot_below, tests};
-ghost use Rattle.repetition_rules.specs.Chains.{Knows, are_full, asked_before, asking, is_all_covered, is_moot, moot_reports};
+ghost use Rattle.repetition_rules.specs.Chains.{Knows, are_full, asked_before, asking, is_all_covered, is_chain, is_if_at, is_moot, moot_reports};
 
 use crate::conditions::{Choice, Condition, condition_of, push_conditions};
 use crate::repetition_rule::{RepetitionRule, words};
@@ -34,10 +34,30 @@ impl Model for Test {
 }
 
 /// Whether it is the kind of an `if`.
-fn is_if(kind: Kind) -> bool
+#[inline]
+pub(crate) fn is_if(kind: Kind) -> bool
     ensures { result ≡ is_if kind }
 {
     matches!(kind, Kind::IfStatement)
+}
+
+/// Whether a part that may be missing is an `if`.
+#[inline]
+fn is_if_at(part: Option<Node>) -> bool
+    ensures { result ≡ is_if_at (option_map node_tree part.entry) }
+{
+    match part {
+        Some(part) => is_if(part.kind()),
+        None => false,
+    }
+}
+
+/// Whether a chain of more than one test begins here: of a single test nothing is reported.
+#[inline]
+fn is_chain(node: Node) -> bool
+    ensures { result ≡ is_chain (node_tree node.entry) }
+{
+    is_if(node.kind()) && is_if_at(node.part(2))
 }
 
 /// A test with all that it asks.
@@ -195,6 +215,9 @@ fn push_chain(
     let Some(node) = node else {
         return Ok(());
     };
+    if !is_chain(node) {
+        return Ok(());
+    }
     let mut tests = Vec::new(alloc);
     push_tests(alloc, node, &mut tests)?;
     let mut lasts = NameSet::new(alloc, key_of(&tests));

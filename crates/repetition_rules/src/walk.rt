@@ -6,16 +6,17 @@ ghost use Rattle.tree.specs.Tree.{parts_of};
 ghost use Rattle.name_tables.specs.BoundNames.{each_part};
 ghost use Rattle.name_tables.specs.PatternParts.{at_part};
 ghost use Rattle.rule_words.specs.Appends.{Grows};
+ghost use Rattle.repetition_rules.specs.Bare.{has_if, is_bare, is_compared};
 ghost use Rattle.repetition_rules.specs.Found.{each, found_by_rules};
 ghost use Rattle.repetition_rules.specs.Rows.{entries_of, of_node, of_parts};
 
 use crate::again::push_reported;
-use crate::else_if::push_chains_below;
+use crate::else_if::{is_if, push_chains_below};
 use crate::entry::Entry;
 use crate::repetition_rule::{RepetitionRule, looks, push_entry};
 use rule_words::Report;
 use std::alloc::{AllocError, Global};
-use tree::{Node, Program};
+use tree::{Kind, Node, Program};
 
 /// Appends what rules report of all nodes of a script.
 ///
@@ -50,10 +51,49 @@ fn push_of_node(
     ensures found { OnOk result (out.new.items ≡ out.old.items ++ each (λ rule. of_node rule (node_tree node.entry)) rules.now) }
     ensures kept { Grows out.old.items out.new.items }
 {
+    if is_bare(node) {
+        return Ok(());
+    }
     for rule in rules {
         push_by_rule(alloc, *rule, node, out)?;
     }
     Ok(())
+}
+
+/// Whether a rule compares parts of nodes of this kind.
+#[inline]
+fn is_compared(kind: Kind) -> bool
+    ensures { result ≡ is_compared kind }
+{
+    matches!(
+        kind,
+        Kind::ClassBody | Kind::ObjectExpression | Kind::SwitchStatement
+    )
+}
+
+/// Whether an `if` stands among a node's parts.
+#[inline]
+#[tactic(auto, using(tree::proofs::PartWalk::part_steps))]
+fn has_if(node: Node) -> bool
+    ensures { result ≡ has_if (parts_of (node_tree node.entry)) }
+{
+    let parts = node.parts();
+    for index in 0..parts.len() {
+        if let Some(part) = parts.get(index) {
+            if is_if(part.kind()) {
+                return true;
+            }
+        }
+    }
+    false
+}
+
+/// Whether no rule says anything of a node, as of most: none compares its parts, and no `if` is one of them.
+#[inline]
+fn is_bare(node: Node) -> bool
+    ensures { result ≡ is_bare (node_tree node.entry) }
+{
+    !is_compared(node.kind()) && !has_if(node)
 }
 
 /// Appends what a rule reports of a node.

@@ -14,7 +14,7 @@ use Rattle.flow_rules.proofs.Together.{both-nodes as both-flows, no-rules as no-
 use Rattle.literal_rules.proofs.Together.{both as both-literal, no-rules as no-literal-rules}
 use Rattle.value_rules.proofs.Together.{both as both-values, no-rules as no-value-rules}
 use Rattle.rules.specs.declared.rule_list.RuleName.{RuleName}
-use Rattle.rules.specs.declared.rule_list.RuleName.TheVariants.{OnNodes, OnReferences, OnRepetitions, OnFlow, OnLiterals, OnTexts, NoExtraParens, NoShadow, NoUndef, NoUnusedPrivateClassMembers, NoUnusedVars, PreferConst, OnValues}
+use Rattle.rules.specs.declared.rule_list.RuleName.TheVariants.{OnNodes, OnReferences, OnRepetitions, OnFlow, OnLiterals, OnTexts, NoExtraParens, NoShadow, NoUndef, NoUnusedPrivateClassMembers, NoUnusedVars, PreferConst, OnValues, NoExtendNative}
 use Rattle.rules.specs.Groups.{chosen, chosen_if, found_alone, found_in_groups, found_on_references, found_on_repetitions, found_on_flow, flow_rule_named, found_on_literals, literal_rule_named, found_on_texts, text_rule_named, node_rule_named, reference_rule_named, repetition_rule_named, found_on_values, value_rule_named}
 use Rattle.rules.specs.NodeRules.{found_on_nodes}
 use Rattle.rules.specs.RuleNames.{called}
@@ -118,6 +118,7 @@ step (OnValues r) names v =
     (behind (texts-find names v) (found_by_name (OnValues r) v) (values-find names v ++ found_alone names v) (values-find (OnValues r ∷ names) v ++ found_alone names v)
     (at-head (found_by_name (OnValues r) v) (values-find names v) (values-find (OnValues r ∷ names) v) (found_alone names v)
     (joins-if (λ rs. found_on_values rs v) (λ q. on_values q v) (λ q rs. both-values (q ∷ []) rs (post_order v.tree)) (is_on (called (OnValues r)) v.settings) r (chosen value_rule_named names v.settings))))))))
+step NoExtendNative names v = alone-last (found_by_name NoExtendNative v) names v
 step NoExtraParens names v = alone-last (found_by_name NoExtraParens v) names v
 step NoShadow names v = alone-last (found_by_name NoShadow v) names v
 step NoUndef names v = alone-last (found_by_name NoUndef v) names v

@@ -10,7 +10,7 @@ use Rattle.rules.specs.Rules.{View}
 use Rattle.rules.specs.Run.{found_by_name, found_by_names, look_at_pairs, look_at_scopes}
 use Rattle.rules.specs.Settings.{is_on}
 use Rattle.rules.specs.declared.rule_list.RuleName.{RuleName}
-use Rattle.rules.specs.declared.rule_list.RuleName.TheVariants.{OnNodes, OnReferences, OnRepetitions, OnFlow, OnLiterals, OnTexts, NoExtraParens, NoShadow, NoUndef, NoUnusedPrivateClassMembers, NoUnusedVars, PreferConst, OnValues}
+use Rattle.rules.specs.declared.rule_list.RuleName.TheVariants.{OnNodes, OnReferences, OnRepetitions, OnFlow, OnLiterals, OnTexts, NoExtraParens, NoShadow, NoUndef, NoUnusedPrivateClassMembers, NoUnusedVars, PreferConst, OnValues, NoExtendNative}
 
 -- a view with other scopes
 abbrev pub with_found : View → Found → View
@@ -27,6 +27,7 @@ same_by_name (OnFlow r) v f h = refl
 same_by_name (OnLiterals r) v f h = refl
 same_by_name (OnTexts r) v f h = refl
 same_by_name (OnValues r) v f h = refl
+same_by_name NoExtendNative v f h = off _ _ _ h
 same_by_name NoExtraParens v f h = refl
 same_by_name NoShadow v f h = off _ _ _ h
 same_by_name NoUndef v f h = off _ _ _ h
@@ -56,6 +57,7 @@ same_by_name_but_pairs (OnFlow r) v spans h = refl
 same_by_name_but_pairs (OnLiterals r) v spans h = refl
 same_by_name_but_pairs (OnTexts r) v spans h = refl
 same_by_name_but_pairs (OnValues r) v spans h = refl
+same_by_name_but_pairs NoExtendNative v spans h = refl
 same_by_name_but_pairs NoExtraParens v spans h = off _ _ _ h
 same_by_name_but_pairs NoShadow v spans h = refl
 same_by_name_but_pairs NoUndef v spans h = refl

@@ -20,7 +20,7 @@ use Rattle.rules.specs.Rules.{View, profile_of}
 use Rattle.rules.specs.Run.{found_by_name}
 use Rattle.rules.specs.Settings.{Settings, is_on}
 use Rattle.rules.specs.declared.rule_list.RuleName.{RuleName}
-use Rattle.rules.specs.declared.rule_list.RuleName.TheVariants.{OnNodes, OnReferences, OnRepetitions, OnFlow, OnLiterals, OnTexts, NoExtraParens, NoShadow, NoUndef, NoUnusedPrivateClassMembers, NoUnusedVars, PreferConst, OnValues}
+use Rattle.rules.specs.declared.rule_list.RuleName.TheVariants.{OnNodes, OnReferences, OnRepetitions, OnFlow, OnLiterals, OnTexts, NoExtraParens, NoShadow, NoUndef, NoUnusedPrivateClassMembers, NoUnusedVars, PreferConst, OnValues, NoExtendNative}
 
 -- the rule of a group that a name is of
 abbrev pub node_rule_named : RuleName → Option NodeRule
@@ -53,6 +53,7 @@ value_rule_named _ = None
 
 -- a name of a rule that is of no group
 abbrev pub is_alone : RuleName → Bool
+is_alone NoExtendNative = true
 is_alone NoExtraParens = true
 is_alone NoShadow = true
 is_alone NoUndef = true

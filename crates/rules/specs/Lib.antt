@@ -5,6 +5,7 @@ pub mod EnvironmentNames
 pub mod Environments
 pub mod Languages
 pub mod RuleNames
+pub mod RuleSets
 pub mod Severities
 pub mod NamePatterns
 pub mod RuleOptions
@@ -14,6 +15,7 @@ pub mod LeftAlone
 pub mod Rules
 pub mod AllRules
 pub mod Toml
+pub mod Misfits
 pub mod Refusals
 pub use Rattle.rule_words.specs.Appends
 pub mod Nodes

@@ -1,10 +1,10 @@
--- The names of the rules, and sets of rules.
+-- The names of the rules, and sets of rules. From rules/NAME.toml tools/rules writes the imports of rows, and the lists that say so.
 use Rattle.std.specs.Prelude.{ℕ, Bool, true, false, cond, ◌||◌, List, [], ◌∷◌, Option, Some, None, codes}
 use Rattle.std.specs.List.{list_any}
 use Rattle.std.specs.Str.{bytes_eq}
 use Rattle.language.specs.Vocabulary.{is}
 use Rattle.node_rules.specs.Rows.{called as row_called}
-use Rattle.node_rules.specs.declared.node_rule.NodeRule.TheVariants.{Curly, DefaultCaseLast, DotNotation, EqEqEq, ForDirection, NoArrayConstructor, NoAsyncPromiseExecutor, NoCaller, NoCaseDeclarations, NoCompareNegZero, NoConstantBinaryExpression, NoConstantCondition, NoDebugger, NoEmpty, NoEmptyPattern, NoEmptyStaticBlock, NoEval, NoExtraBooleanCast, NoExtraSemi, NoImplicitCoercion, NoInnerDeclarations, NoLabels, NoLonelyIf, NoMultiAssign, NoMultiStr, NoNestedTernary, NoNew, NoNewFunc, NoNewObject, NoNewWrappers, NoProto, NoPrototypeBuiltins, NoReturnAwait, NoSelfAssign, NoSelfCompare, NoSetterReturn, NoSparseArrays, NoThrowLiteral, NoUndefInit, NoUnneededTernary, NoUnsafeFinally, NoUnsafeNegation, NoUnsafeOptionalChaining, NoUnusedExpressions, NoUnusedLabels, NoUselessCatch, NoUselessComputedKey, NoUselessConcat, NoUselessConstructor, NoUselessRename, NoVar, NoVoid, ObjectShorthand, OperatorAssignment, PreferExponentiationOperator, PreferObjectHasOwn, PreferTemplate, Radix, RequireYield, SymbolDescription, UseIsNan, ValidTypeof, Yoda}
+use Rattle.node_rules.specs.declared.node_rule.NodeRule.TheVariants.{Curly, DefaultCaseLast, DotNotation, EqEqEq, ForDirection, NoArrayConstructor, NoAsyncPromiseExecutor, NoCaller, NoCaseDeclarations, NoCompareNegZero, NoConstantBinaryExpression, NoConstantCondition, NoContinue, NoDebugger, NoEmpty, NoEmptyPattern, NoEmptyStaticBlock, NoEval, NoExtraBooleanCast, NoExtraSemi, NoImplicitCoercion, NoInnerDeclarations, NoLabels, NoLonelyIf, NoMultiAssign, NoMultiStr, NoNestedTernary, NoNew, NoNewFunc, NoNewObject, NoNewWrappers, NoPlusplus, NoProto, NoPrototypeBuiltins, NoReturnAwait, NoSelfAssign, NoSelfCompare, NoSetterReturn, NoSparseArrays, NoTernary, NoThrowLiteral, NoUndefInit, NoUnneededTernary, NoUnsafeFinally, NoUnsafeNegation, NoUnsafeOptionalChaining, NoUnusedExpressions, NoUnusedLabels, NoUselessCatch, NoUselessComputedKey, NoUselessConcat, NoUselessConstructor, NoUselessRename, NoVar, NoVoid, ObjectShorthand, OperatorAssignment, PreferExponentiationOperator, PreferObjectHasOwn, PreferTemplate, Radix, RequireYield, SymbolDescription, UseIsNan, ValidTypeof, Yoda}
 use Rattle.reference_rules.specs.Rows.{called as name_called}
 use Rattle.reference_rules.specs.declared.reference_rule.ReferenceRule.TheVariants.{NoAlert, NoClassAssign, NoConstAssign, NoExAssign, NoFuncAssign, NoGlobalAssign, NoImplicitGlobals, NoImportAssign, NoNewNativeNonconstructor, NoNewSymbol, NoObjCalls, NoParamReassign, NoRedeclare, NoShadowRestrictedNames, NoUndefined, NoUseBeforeDefine}
 use Rattle.repetition_rules.specs.Rows.{called as part_called}
@@ -16,9 +16,9 @@ use Rattle.literal_rules.specs.declared.literal_rule.LiteralRule.TheVariants.{No
 use Rattle.text_rules.specs.Rows.{called as text_rule_called}
 use Rattle.text_rules.specs.declared.text_rule.TextRule.TheVariants.{NoCondAssign, NoIrregularWhitespace, NoSequences, NoUnexpectedMultiline}
 use Rattle.value_rules.specs.Rows.{called as value_rule_called}
-use Rattle.value_rules.specs.declared.value_rule.ValueRule.TheVariants.{NoLossOfPrecision}
+use Rattle.value_rules.specs.declared.value_rule.ValueRule.TheVariants.{NoLossOfPrecision, NoMisleadingCharacterClass, NoUselessBackreference}
 use Rattle.rules.specs.declared.rule_list.RuleName.{RuleName}
-use Rattle.rules.specs.declared.rule_list.RuleName.TheVariants.{OnNodes, OnReferences, OnRepetitions, OnFlow, OnLiterals, OnTexts, NoExtraParens, NoShadow, NoUndef, NoUnusedPrivateClassMembers, NoUnusedVars, PreferConst, OnValues}
+use Rattle.rules.specs.declared.rule_list.RuleName.TheVariants.{OnNodes, OnReferences, OnRepetitions, OnFlow, OnLiterals, OnTexts, NoExtraParens, NoShadow, NoUndef, NoUnusedPrivateClassMembers, NoUnusedVars, PreferConst, OnValues, NoExtendNative}
 use Rattle.rules.specs.declared.rule_set.RuleSet.{RuleSet}
 use Rattle.rules.specs.declared.rule_set.RuleSet.TheVariants.{Nine, Recommended, Every, Nothing}
 
@@ -31,6 +31,7 @@ called (OnFlow rule) = flow_rule_called rule
 called (OnLiterals rule) = literal_rule_called rule
 called (OnTexts rule) = text_rule_called rule
 called (OnValues rule) = value_rule_called rule
+called NoExtendNative = codes "no-extend-native"
 called NoExtraParens = codes "no-extra-parens"
 called NoShadow = codes "no-shadow"
 called NoUndef = codes "no-undef"
@@ -41,6 +42,7 @@ called PreferConst = codes "prefer-const"
 -- a rule looks at scopes
 abbrev pub looks_at_scopes : RuleName → Bool
 looks_at_scopes (OnReferences rule) = true
+looks_at_scopes NoExtendNative = true
 looks_at_scopes NoShadow = true
 looks_at_scopes NoUndef = true
 looks_at_scopes NoUnusedVars = true
@@ -52,7 +54,7 @@ abbrev pub looks_at_pairs : RuleName → Bool
 looks_at_pairs NoExtraParens = true
 looks_at_pairs _ = false
 
--- the rules, in the order of their names
+-- the rules, in the order of their names: tools/rules writes them
 abbrev pub all_rules : List RuleName
 all_rules =
     OnFlow ArrayCallbackReturn
@@ -75,6 +77,7 @@ all_rules =
     ∷ OnReferences NoConstAssign
     ∷ OnNodes NoConstantBinaryExpression
     ∷ OnNodes NoConstantCondition
+    ∷ OnNodes NoContinue
     ∷ OnLiterals NoControlRegex
     ∷ OnNodes NoDebugger
     ∷ OnLiterals NoDivRegex
@@ -89,6 +92,7 @@ all_rules =
     ∷ OnNodes NoEmptyStaticBlock
     ∷ OnNodes NoEval
     ∷ OnReferences NoExAssign
+    ∷ NoExtendNative
     ∷ OnNodes NoExtraBooleanCast
     ∷ NoExtraParens
     ∷ OnNodes NoExtraSemi
@@ -103,6 +107,7 @@ all_rules =
     ∷ OnNodes NoLabels
     ∷ OnNodes NoLonelyIf
     ∷ OnValues NoLossOfPrecision
+    ∷ OnValues NoMisleadingCharacterClass
     ∷ OnNodes NoMultiAssign
     ∷ OnNodes NoMultiStr
     ∷ OnNodes NoNestedTernary
@@ -114,6 +119,7 @@ all_rules =
     ∷ OnNodes NoNewWrappers
     ∷ OnReferences NoObjCalls
     ∷ OnReferences NoParamReassign
+    ∷ OnNodes NoPlusplus
     ∷ OnNodes NoProto
     ∷ OnNodes NoPrototypeBuiltins
     ∷ OnReferences NoRedeclare
@@ -128,6 +134,7 @@ all_rules =
     ∷ OnReferences NoShadowRestrictedNames
     ∷ OnNodes NoSparseArrays
     ∷ OnLiterals NoTemplateCurlyInString
+    ∷ OnNodes NoTernary
     ∷ OnFlow NoThisBeforeSuper
     ∷ OnNodes NoThrowLiteral
     ∷ NoUndef
@@ -145,6 +152,7 @@ all_rules =
     ∷ NoUnusedPrivateClassMembers
     ∷ NoUnusedVars
     ∷ OnReferences NoUseBeforeDefine
+    ∷ OnValues NoUselessBackreference
     ∷ OnNodes NoUselessCatch
     ∷ OnNodes NoUselessComputedKey
     ∷ OnNodes NoUselessConcat
@@ -168,7 +176,7 @@ all_rules =
     ∷ OnNodes Yoda
     ∷ []
 
--- those that are on where settings say nothing
+-- those that are on where settings say nothing: tools/rules writes them
 abbrev pub nine_rules : List RuleName
 nine_rules =
     OnNodes EqEqEq
@@ -182,7 +190,7 @@ nine_rules =
     ∷ PreferConst
     ∷ []
 
--- those that ESLint recommends, by its 8th version or by its 9th
+-- those that ESLint recommends, by its 8th version or by its 9th: tools/rules writes them
 abbrev pub recommended_rules : List RuleName
 recommended_rules =
     OnFlow ConstructorSuper
@@ -216,6 +224,7 @@ recommended_rules =
     ∷ OnNodes NoInnerDeclarations
     ∷ OnTexts NoIrregularWhitespace
     ∷ OnValues NoLossOfPrecision
+    ∷ OnValues NoMisleadingCharacterClass
     ∷ OnReferences NoNewNativeNonconstructor
     ∷ OnReferences NoNewSymbol
     ∷ OnReferences NoObjCalls
@@ -236,6 +245,7 @@ recommended_rules =
     ∷ OnNodes NoUnusedLabels
     ∷ NoUnusedPrivateClassMembers
     ∷ NoUnusedVars
+    ∷ OnValues NoUselessBackreference
     ∷ OnNodes NoUselessCatch
     ∷ OnLiterals NoUselessEscape
     ∷ OnNodes RequireYield

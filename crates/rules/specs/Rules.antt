@@ -20,6 +20,7 @@ use Rattle.literal_rules.specs.Found.{found_by_rule as found_by_literal_rule}
 use Rattle.literal_rules.specs.declared.literal_rule.LiteralRule.{LiteralRule}
 use Rattle.text_rules.specs.Found.{found_by_rule as found_by_text_rule}
 use Rattle.text_rules.specs.declared.text_rule.TextRule.{TextRule}
+use Rattle.native_prototypes.specs.Found.{found as found_prototypes}
 use Rattle.private_members.specs.Found.{found as found_private_members}
 use Rattle.value_rules.specs.Found.{found_by_rule as found_by_value_rule}
 use Rattle.value_rules.specs.declared.value_rule.ValueRule.{ValueRule}
@@ -69,6 +70,10 @@ no_unused_private_class_members v = found_private_members v.tree
 -- a tree of the language of 2022, as its text says
 abbrev pub is_of_2022 : Tree → Bool
 is_of_2022 tree = is (text_of tree) "2022" || is (text_of tree) "module"
+
+-- no-extend-native
+abbrev pub no_extend_native : View → List Report
+no_extend_native v = found_prototypes (is_of_2022 v.tree) v.found.references v.tree
 
 -- Rules that ask what names mean: `specs/Rows.antt` of `reference_rules` says what each reports.
 

@@ -9,7 +9,8 @@ use Rattle.std.specs.Option.{option_map_or}
 use Rattle.std.specs.Ordering.{nat_cmp}
 use Rattle.std.specs.Str.{bytes_eq}
 use Rattle.language.specs.Vocabulary.{is}
-use Rattle.rules.specs.RuleNames.{all_rules, called, has_name, is_known, rules_in, set_named}
+use Rattle.rules.specs.RuleNames.{all_rules, called, is_known, set_named}
+use Rattle.rules.specs.RuleSets.{has_rule, no_sets, with_set}
 use Rattle.rules.specs.NamePatterns.{is_pattern}
 use Rattle.rules.specs.RuleOptions.{NameLists, caught_named, is_list, is_option, key_of, list_key_of, list_rule_of, params_named, rule_of}
 use Rattle.rules.specs.Severities.{is_severity, narrowed, severity_named, severity_numbered, severity_of_flag}
@@ -22,8 +23,8 @@ use Rattle.rules.specs.declared.rule_option.CheckedParams.TheVariants.{NoParams}
 use Rattle.rules.specs.declared.rule_option.RuleOptions.{RuleOptions}
 use Rattle.rules.specs.declared.name_lists.NameList.{NameList}
 use Rattle.rules.specs.declared.name_lists.NameList.TheVariants.{ArgsIgnore, VarsIgnore, CaughtErrorsIgnore, Allow}
-use Rattle.rules.specs.declared.rule_set.RuleSet.{RuleSet}
 use Rattle.rules.specs.declared.rule_set.RuleSet.TheVariants.{Nine}
+use Rattle.rules.specs.declared.rule_set.RuleSets.{RuleSets}
 use Rattle.rules.specs.declared.severity.Severity.{Severity}
 use Rattle.rules.specs.declared.severity.Severity.TheVariants.{Warn, Error}
 use Rattle.rules.specs.declared.environment.Environments.{Environments}
@@ -160,10 +161,15 @@ value_of_rule rule ms = option_and_then (λ d. option_and_then (get_member rule)
 
 -- ---- the severity of each rule
 
--- the set of rules that is extended: the nine where none is named
-abbrev pub set_of_rules : Option Data → Option RuleSet
-set_of_rules None = Some Nine
-set_of_rules (Some d) = option_and_then set_named (as_str d)
+-- these sets of rules and those that an array names
+abbrev pub with_sets : RuleSets → Items → Option RuleSets
+with_sets sets no_items = Some sets
+with_sets sets (item d xs) = option_and_then (λ w. option_and_then (λ set. with_sets (with_set sets set) xs) (set_named w)) (as_str d)
+
+-- the sets that are extended, one by its name or several together: the nine where none is named
+abbrev pub sets_of_rules : Option Data → Option RuleSets
+sets_of_rules None = Some (with_set no_sets Nine)
+sets_of_rules (Some d) = option_map_or (with_sets no_sets) (as_array d) (option_map (with_set no_sets) (option_and_then set_named (as_str d)))
 
 -- the names in an array are those of rules, and none occurs twice
 abbrev pub are_names : List (List ℕ) → Items → Bool
@@ -187,9 +193,9 @@ narrowed_to (Some names) rule severity = narrowed (list_any (λ x. bytes_eq rule
 abbrev pub said_of : Bool → Option Data → Severity
 said_of in_set value = unwrap_or (option_and_then severity_at value) (severity_of_flag in_set)
 
--- the severity of a rule in a document, by the set that it extends, by `only`, and by what stands at the rule
-abbrev pub severity_of : List RuleName → Option (List (List ℕ)) → Members → RuleName → Severity
-severity_of set only ms rule = narrowed_to only (called rule) (said_of (has_name set (called rule)) (value_of_rule (called rule) ms))
+-- the severity of a rule in a document, by the sets that it extends, by `only`, and by what stands at the rule
+abbrev pub severity_of : RuleSets → Option (List (List ℕ)) → Members → RuleName → Severity
+severity_of sets only ms rule = narrowed_to only (called rule) (said_of (has_rule sets (called rule)) (value_of_rule (called rule) ms))
 
 -- the rules of a severity
 unfoldable pub rules_at : Severity → (RuleName → Severity) → List RuleName → List RuleName
@@ -197,8 +203,8 @@ rules_at severity of [] = []
 rules_at severity of (r ∷ rs) = cond (is_severity (of r) severity) (r ∷ rules_at severity of rs) (rules_at severity of rs)
 
 -- those of a document
-unfoldable pub all_at : Severity → List RuleName → Option (List (List ℕ)) → Members → List RuleName
-all_at severity set only ms = rules_at severity (severity_of set only ms) all_rules
+unfoldable pub all_at : Severity → RuleSets → Option (List (List ℕ)) → Members → List RuleName
+all_at severity sets only ms = rules_at severity (severity_of sets only ms) all_rules
 
 -- ---- options
 
@@ -251,15 +257,15 @@ lists_of ms = record { args_ignore = list_of ArgsIgnore ms; vars_ignore = list_o
 -- ---- settings
 
 -- the settings of a document whose keys and rules fit
-abbrev pub settings_with : List RuleName → Option (List (List ℕ)) → Members → Option Settings
-settings_with set only ms =
-    option_and_then (λ g. option_and_then (λ e. option_and_then (λ l. option_map (λ o. record { errors = all_at Error set only ms; warnings = all_at Warn set only ms; globals = g; environments = e; languages = l; options = o; lists = lists_of ms })
+abbrev pub settings_with : RuleSets → Option (List (List ℕ)) → Members → Option Settings
+settings_with sets only ms =
+    option_and_then (λ g. option_and_then (λ e. option_and_then (λ l. option_map (λ o. record { errors = all_at Error sets only ms; warnings = all_at Warn sets only ms; globals = g; environments = e; languages = l; options = o; lists = lists_of ms })
     (options_of ms)) (languages_of ms)) (environments_of (get_member (codes "env") ms)))
     (globals_of (get_member (codes "globals") ms))
 
 abbrev pub settings_of : Members → Option Settings
 settings_of ms = cond (knows_keys ms && rules_fit (get_member (codes "rules") ms))
-    (option_and_then (λ set. option_and_then (λ only. settings_with (rules_in set) only ms) (only_of (get_member (codes "only") ms))) (set_of_rules (get_member (codes "extends") ms)))
+    (option_and_then (λ sets. option_and_then (λ only. settings_with sets only ms) (only_of (get_member (codes "only") ms))) (sets_of_rules (get_member (codes "extends") ms)))
     None
 
 -- the settings that a text gives: none where it is refused

@@ -25,6 +25,8 @@ pub enum RuleName {
     OnTexts(TextRule),
     /// A rule on the values of literals: a row of `value_rules`.
     OnValues(ValueRule),
+    /// `no-extend-native`.
+    NoExtendNative,
     /// `no-extra-parens`.
     NoExtraParens,
     /// `no-shadow`.
@@ -39,8 +41,8 @@ pub enum RuleName {
     PreferConst,
 }
 
-/// The rules, in the order of their names.
-pub const RULES: [RuleName; 111] = [
+/// The rules, in the order of their names: tools/rules writes them.
+pub const RULES: [RuleName; 117] = [
     RuleName::OnFlow(FlowRule::ArrayCallbackReturn),
     RuleName::OnFlow(FlowRule::ConsistentReturn),
     RuleName::OnFlow(FlowRule::ConstructorSuper),
@@ -61,6 +63,7 @@ pub const RULES: [RuleName; 111] = [
     RuleName::OnReferences(ReferenceRule::NoConstAssign),
     RuleName::OnNodes(NodeRule::NoConstantBinaryExpression),
     RuleName::OnNodes(NodeRule::NoConstantCondition),
+    RuleName::OnNodes(NodeRule::NoContinue),
     RuleName::OnLiterals(LiteralRule::NoControlRegex),
     RuleName::OnNodes(NodeRule::NoDebugger),
     RuleName::OnLiterals(LiteralRule::NoDivRegex),
@@ -75,6 +78,7 @@ pub const RULES: [RuleName; 111] = [
     RuleName::OnNodes(NodeRule::NoEmptyStaticBlock),
     RuleName::OnNodes(NodeRule::NoEval),
     RuleName::OnReferences(ReferenceRule::NoExAssign),
+    RuleName::NoExtendNative,
     RuleName::OnNodes(NodeRule::NoExtraBooleanCast),
     RuleName::NoExtraParens,
     RuleName::OnNodes(NodeRule::NoExtraSemi),
@@ -89,6 +93,7 @@ pub const RULES: [RuleName; 111] = [
     RuleName::OnNodes(NodeRule::NoLabels),
     RuleName::OnNodes(NodeRule::NoLonelyIf),
     RuleName::OnValues(ValueRule::NoLossOfPrecision),
+    RuleName::OnValues(ValueRule::NoMisleadingCharacterClass),
     RuleName::OnNodes(NodeRule::NoMultiAssign),
     RuleName::OnNodes(NodeRule::NoMultiStr),
     RuleName::OnNodes(NodeRule::NoNestedTernary),
@@ -100,6 +105,7 @@ pub const RULES: [RuleName; 111] = [
     RuleName::OnNodes(NodeRule::NoNewWrappers),
     RuleName::OnReferences(ReferenceRule::NoObjCalls),
     RuleName::OnReferences(ReferenceRule::NoParamReassign),
+    RuleName::OnNodes(NodeRule::NoPlusplus),
     RuleName::OnNodes(NodeRule::NoProto),
     RuleName::OnNodes(NodeRule::NoPrototypeBuiltins),
     RuleName::OnReferences(ReferenceRule::NoRedeclare),
@@ -114,6 +120,7 @@ pub const RULES: [RuleName; 111] = [
     RuleName::OnReferences(ReferenceRule::NoShadowRestrictedNames),
     RuleName::OnNodes(NodeRule::NoSparseArrays),
     RuleName::OnLiterals(LiteralRule::NoTemplateCurlyInString),
+    RuleName::OnNodes(NodeRule::NoTernary),
     RuleName::OnFlow(FlowRule::NoThisBeforeSuper),
     RuleName::OnNodes(NodeRule::NoThrowLiteral),
     RuleName::NoUndef,
@@ -131,6 +138,7 @@ pub const RULES: [RuleName; 111] = [
     RuleName::NoUnusedPrivateClassMembers,
     RuleName::NoUnusedVars,
     RuleName::OnReferences(ReferenceRule::NoUseBeforeDefine),
+    RuleName::OnValues(ValueRule::NoUselessBackreference),
     RuleName::OnNodes(NodeRule::NoUselessCatch),
     RuleName::OnNodes(NodeRule::NoUselessComputedKey),
     RuleName::OnNodes(NodeRule::NoUselessConcat),
@@ -154,7 +162,7 @@ pub const RULES: [RuleName; 111] = [
     RuleName::OnNodes(NodeRule::Yoda),
 ];
 
-/// The nine rules that are on where settings say nothing.
+/// The nine rules that are on where settings say nothing: tools/rules writes them.
 pub(crate) const NINE: [RuleName; 9] = [
     RuleName::OnNodes(NodeRule::EqEqEq),
     RuleName::OnNodes(NodeRule::NoDebugger),
@@ -167,8 +175,8 @@ pub(crate) const NINE: [RuleName; 9] = [
     RuleName::PreferConst,
 ];
 
-/// Those that ESLint recommends, by its 8th version or by its 9th.
-pub(crate) const RECOMMENDED: [RuleName; 56] = [
+/// Those that ESLint recommends, by its 8th version or by its 9th: tools/rules writes them.
+pub(crate) const RECOMMENDED: [RuleName; 58] = [
     RuleName::OnFlow(FlowRule::ConstructorSuper),
     RuleName::OnNodes(NodeRule::ForDirection),
     RuleName::OnFlow(FlowRule::GetterReturn),
@@ -200,6 +208,7 @@ pub(crate) const RECOMMENDED: [RuleName; 56] = [
     RuleName::OnNodes(NodeRule::NoInnerDeclarations),
     RuleName::OnTexts(TextRule::NoIrregularWhitespace),
     RuleName::OnValues(ValueRule::NoLossOfPrecision),
+    RuleName::OnValues(ValueRule::NoMisleadingCharacterClass),
     RuleName::OnReferences(ReferenceRule::NoNewNativeNonconstructor),
     RuleName::OnReferences(ReferenceRule::NoNewSymbol),
     RuleName::OnReferences(ReferenceRule::NoObjCalls),
@@ -220,6 +229,7 @@ pub(crate) const RECOMMENDED: [RuleName; 56] = [
     RuleName::OnNodes(NodeRule::NoUnusedLabels),
     RuleName::NoUnusedPrivateClassMembers,
     RuleName::NoUnusedVars,
+    RuleName::OnValues(ValueRule::NoUselessBackreference),
     RuleName::OnNodes(NodeRule::NoUselessCatch),
     RuleName::OnLiterals(LiteralRule::NoUselessEscape),
     RuleName::OnNodes(NodeRule::RequireYield),
@@ -243,6 +253,7 @@ impl RuleName {
             RuleName::OnLiterals(rule) => rule.name(),
             RuleName::OnTexts(rule) => rule.name(),
             RuleName::OnValues(rule) => rule.name(),
+            RuleName::NoExtendNative => "no-extend-native",
             RuleName::NoExtraParens => "no-extra-parens",
             RuleName::NoShadow => "no-shadow",
             RuleName::NoUndef => "no-undef",
@@ -259,6 +270,7 @@ impl RuleName {
         matches!(
             self,
             RuleName::OnReferences(_)
+                | RuleName::NoExtendNative
                 | RuleName::NoShadow
                 | RuleName::NoUndef
                 | RuleName::NoUnusedVars

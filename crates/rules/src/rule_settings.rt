@@ -1,17 +1,16 @@
 //! What settings say of rules.
 
 ghost use Rattle.std.specs.Prelude.{◌≡◌, IfOk, codes, option_map, string_bytes, map};
-ghost use Rattle.std.specs.List.{list_all};
 ghost use Rattle.toml.specs.View.{table_view, view};
-ghost use Rattle.rules.specs.Toml.{all_at, caught_of, caught_said, fits_flag, fits_key, fits_list, fits_rule, fits_table, fits_word, flag_in_rule, flag_of, is_setting, knows_rules, narrowed_to, option_in_rule, option_of, options_of, params_of, params_said, rules_at, rules_fit, said_of, severity_at, severity_of, severity_said};
+ghost use Rattle.rules.specs.Toml.{all_at, caught_of, caught_said, fits_flag, fits_key, fits_list, fits_word, flag_in_rule, flag_of, narrowed_to, option_in_rule, option_of, options_of, params_of, params_said, rules_at, said_of, severity_at, severity_of, severity_said};
 ghost use Rattle.toml.specs.Data.{get_member};
 
-use crate::known_keys::{is_known, is_one_of};
 use crate::listed_names::may_be_list;
 use crate::look_up::{look, value_in_rule, value_of_rule};
 use crate::name_lists::is_list;
 use crate::rule_list::{RULES, RuleName};
 use crate::rule_option::{CheckedParams, RuleOption, RuleOptions, caught_named, is_option};
+use crate::rule_set::RuleSets;
 use crate::settings::is_among_names;
 use crate::severity::Severity;
 use std::alloc::{AllocError, Global};
@@ -19,7 +18,7 @@ use std::collections::BTreeSet;
 use toml::{Table, Value};
 
 /// The severity that a value says, by true or false, by its number or by its name.
-fn severity_said(value: &Value) -> Option<Severity>
+pub(crate) fn severity_said(value: &Value) -> Option<Severity>
     ensures { result ≡ severity_said (view value.now) }
 {
     if let Some(is_on) = value.as_bool() {
@@ -71,76 +70,13 @@ fn fits_list(rule: &str, key: &str, value: &Value) -> bool
 }
 
 /// Whether the table of a rule may have this value at this key.
-fn fits_key(rule: &str, key: &str, value: &Value) -> bool
+pub(crate) fn fits_key(rule: &str, key: &str, value: &Value) -> bool
     ensures { result ≡ fits_key rule.now key.now (view value.now) }
 {
     if key == "severity" {
         return severity_said(value).is_some();
     }
     fits_flag(rule, key, value) || fits_word(rule, key, value) || fits_list(rule, key, value)
-}
-
-/// Whether the table of a rule may have all these entries.
-fn all_fit(rule: &str, table: &Table) -> bool
-    ensures { result ≡ list_all (λ e. fits_key rule.now (string_bytes e.0) (view e.1)) table.now.entries }
-{
-    table
-        .iter()
-        .all(|(key, value)| fits_key(rule, key.as_str(), value))
-}
-
-/// Whether this may be the table of a rule.
-fn fits_table(rule: &str, table: &Table) -> bool
-    ensures { result ≡ fits_table rule.now (table_view table.now) }
-{
-    all_fit(rule, table)
-}
-
-/// Whether a rule takes a value.
-fn fits_rule(rule: &str, value: &Value) -> bool
-    ensures { result ≡ fits_rule rule.now (view value.now) }
-{
-    match value.as_table() {
-        Some(table) => fits_table(rule, table),
-        None => severity_said(value).is_some(),
-    }
-}
-
-/// Whether a name is that of a rule, which takes a value.
-#[tactic(auto, unfolding(crate::specs::Toml::is_setting))]
-fn is_setting(rule: &str, value: &Value) -> bool
-    ensures { result ≡ is_setting rule.now (view value.now) }
-{
-    is_known(rule) && fits_rule(rule, value)
-}
-
-/// Whether all keys are names of rules that take their values.
-fn all_are_rules(table: &Table) -> bool
-    ensures { result ≡ list_all (λ e. is_setting (string_bytes e.0) (view e.1)) table.now.entries }
-{
-    table
-        .iter()
-        .all(|(rule, value)| is_setting(rule.as_str(), value))
-}
-
-/// Whether this may stand at `rules`.
-fn knows_rules(table: &Table) -> bool
-    ensures { result ≡ knows_rules (table_view table.now) }
-{
-    all_are_rules(table)
-}
-
-/// Whether `rules` is left out, or a table of rules, each with a value that it takes.
-pub(crate) fn rules_fit(table: &Table) -> bool
-    ensures { result ≡ rules_fit (get_member (codes "rules") (table_view table.now)) }
-{
-    match look(table, "rules") {
-        None => true,
-        Some(value) => match value.as_table() {
-            Some(rules) => knows_rules(rules),
-            None => false,
-        },
-    }
 }
 
 /// The severity that is said of a rule; where none is, it is an error if the set has it, and else off.
@@ -167,17 +103,17 @@ fn narrowed_to(only: &Option<BTreeSet<String>>, rule: &str, severity: Severity) 
     }
 }
 
-/// The severity of a rule, by the set that is extended, by which rules alone are asked for, and by what stands at it.
+/// The severity of a rule, by the sets that are extended, by which rules alone are asked for, and by what stands at it.
 fn severity_of(
-    set: &[RuleName],
+    sets: RuleSets,
     only: &Option<BTreeSet<String>>,
     table: &Table,
     rule: RuleName,
 ) -> Severity
-    ensures { result ≡ severity_of set.now (option_map (λ names. map string_bytes names.keys) only.now) (table_view table.now) rule }
+    ensures { result ≡ severity_of sets (option_map (λ names. map string_bytes names.keys) only.now) (table_view table.now) rule }
 {
     let name = rule.as_str();
-    let said = said_of(is_one_of(name, set), value_of_rule(table, name));
+    let said = said_of(sets.has_rule(name), value_of_rule(table, name));
     narrowed_to(only, name, said)
 }
 
@@ -186,16 +122,16 @@ fn severity_of(
 fn rules_at(
     alloc: Global,
     severity: Severity,
-    set: &[RuleName],
+    sets: RuleSets,
     only: &Option<BTreeSet<String>>,
     table: &Table,
     rules: &[RuleName],
 ) -> Result<Vec<RuleName>, AllocError>
-    ensures { IfOk result (λ v. v.items ≡ rules_at severity (severity_of set.now (option_map (λ names. map string_bytes names.keys) only.now) (table_view table.now)) rules.now) }
+    ensures { IfOk result (λ v. v.items ≡ rules_at severity (severity_of sets (option_map (λ names. map string_bytes names.keys) only.now) (table_view table.now)) rules.now) }
 {
     let mut found = Vec::new(alloc);
     for rule in rules {
-        if severity_of(set, only, table, *rule).is(severity) {
+        if severity_of(sets, only, table, *rule).is(severity) {
             found.push(*rule)?;
         }
     }
@@ -207,17 +143,17 @@ fn rules_at(
 pub(crate) fn all_at(
     alloc: Global,
     severity: Severity,
-    set: &[RuleName],
+    sets: RuleSets,
     only: &Option<BTreeSet<String>>,
     table: &Table,
 ) -> Result<Vec<RuleName>, AllocError>
-    ensures { IfOk result (λ v. v.items ≡ all_at severity set.now (option_map (λ names. map string_bytes names.keys) only.now) (table_view table.now)) }
+    ensures { IfOk result (λ v. v.items ≡ all_at severity sets (option_map (λ names. map string_bytes names.keys) only.now) (table_view table.now)) }
 {
-    rules_at(alloc, severity, set, only, table, RULES.as_slice())
+    rules_at(alloc, severity, sets, only, table, RULES.as_slice())
 }
 
 /// The flag at a key: false if it is left out, none if it is no boolean.
-fn flag(table: &Table, key: &str) -> Option<bool>
+pub(crate) fn flag(table: &Table, key: &str) -> Option<bool>
     ensures { result ≡ flag_of (get_member key.now (table_view table.now)) }
 {
     match look(table, key) {

@@ -97,7 +97,8 @@ fn is_alone(name: RuleName) -> bool
 {
     matches!(
         name,
-        RuleName::NoExtraParens
+        RuleName::NoExtendNative
+            | RuleName::NoExtraParens
             | RuleName::NoShadow
             | RuleName::NoUndef
             | RuleName::NoUnusedPrivateClassMembers

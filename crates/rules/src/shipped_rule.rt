@@ -1,6 +1,7 @@
 //! A rule that ships with the program, as what a box holds.
 
 use crate::groups::Grouped;
+use crate::no_extend_native::NoExtendNative;
 use crate::no_extra_parens::NoExtraParens;
 use crate::no_shadow::NoShadow;
 use crate::no_undef::NoUndef;
@@ -66,6 +67,7 @@ impl Rule for ShippedRule {
             RuleName::OnLiterals(rule) => LiteralRule::push_reports(self.alloc, &[rule], view, out),
             RuleName::OnTexts(rule) => TextRule::push_reports(self.alloc, &[rule], view, out),
             RuleName::OnValues(rule) => ValueRule::push_reports(self.alloc, &[rule], view, out),
+            RuleName::NoExtendNative => NoExtendNative::new(self.alloc).check(view, out),
             RuleName::NoExtraParens => NoExtraParens::new(self.alloc).check(view, out),
             RuleName::NoShadow => NoShadow::new(self.alloc).check(view, out),
             RuleName::NoUndef => NoUndef::new(self.alloc).check(view, out),

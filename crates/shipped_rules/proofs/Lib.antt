@@ -1,1 +1,2 @@
 pub mod RuleLists
+pub mod RuleRuns

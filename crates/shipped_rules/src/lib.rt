@@ -1,6 +1,6 @@
 #![tactic(auto)]
 
-//! The rules that ship with the program: runs of a command with those of `rules`. `check` has them, no other command has any.
+//! The rules that ship with the program: runs of a command with those of `rules`. `check` and `mend` have them, no other command has any.
 //! - May touch: what `run` of `lint` may. It names no rule: `rules` has the list.
 //! - Contract: `run_with_rules` promises what `lint` promises of a run, with these rules.
 //! - Begin at: `lib.rt`, `run_with_rules`. Definitions: `specs/ShippedRules.antt`.
@@ -9,7 +9,7 @@ ghost use Rattle.std.specs.Prelude.{◌≡◌, ◌≢◌, IfErr, false};
 ghost use Rattle.source_text.specs.declared.fault.Fault.TheVariants.{Usage};
 ghost use Rattle.shipped_rules.specs.ShippedRules.{RunsByRules, rules_of};
 
-use commands::{Command, LanguageChoice, Refused};
+use commands::{AskedLanguage, Command, Refused};
 use lint::run::run;
 use rules::{RULES, RuleName};
 use source_text::{Feed, Sink};
@@ -20,12 +20,12 @@ fn rules_of(command: Command) -> &'static [RuleName]
     ensures { result.now ≡ rules_of command }
 {
     match command {
-        Command::Check(_) => RULES.as_slice(),
+        Command::Check(_) | Command::Mend => RULES.as_slice(),
         _ => &[],
     }
 }
 
-/// Runs a command over its two readers and a writer, with the rules of `rules` where it is `check`.
+/// Runs a command over its two readers and a writer, with the rules of `rules` where it is `check` or `mend`.
 ///
 /// # Errors
 ///
@@ -33,7 +33,7 @@ fn rules_of(command: Command) -> &'static [RuleName]
 pub fn run_with_rules<F: Feed, S: Feed, W: Sink>(
     alloc: Global,
     command: Command,
-    choice: LanguageChoice,
+    asked: AskedLanguage,
     file: &mut F,
     second: &mut S,
     output: &mut W,
@@ -42,7 +42,7 @@ pub fn run_with_rules<F: Feed, S: Feed, W: Sink>(
     requires reads_second { S.failed second.old ≡ false }
     requires writes { W.failed output.old ≡ false }
     ensures told { IfErr result (λ refused. refused.fault ≢ Usage) }
-    ensures answer { RunsByRules command choice (record {
+    ensures answer { RunsByRules command asked (record {
       given = F.left file.old;
       second = S.left second.old;
       before = W.taken output.old;
@@ -53,5 +53,5 @@ pub fn run_with_rules<F: Feed, S: Feed, W: Sink>(
     }) result }
 {
     let names = rules_of(command);
-    run(alloc, command, choice, names, &[], file, second, output)
+    run(alloc, command, asked, names, &[], file, second, output)
 }

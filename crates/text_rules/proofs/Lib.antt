@@ -4,4 +4,5 @@ mod NodeTurns
 mod PartTurns
 mod QuietTexts
 mod Together
-mod Turns
+pub mod Turns
+mod EvenTexts

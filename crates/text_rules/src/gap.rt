@@ -33,7 +33,7 @@ fn is_place(text: &str, at: usize) -> bool
 }
 
 /// What stands between two places; nothing, where they are no places in order.
-pub(crate) fn piece(text: &str, from: usize, to: usize) -> &str
+pub fn piece(text: &str, from: usize, to: usize) -> &str
     ensures value { result.now ≡ piece text.now from to }
     ensures within { from + length result.now < 2 ^ 64 }
 {

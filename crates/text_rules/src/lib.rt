@@ -18,5 +18,8 @@ mod spot;
 mod text_rule;
 mod walk;
 
+pub use gap::piece;
+pub use spaces::{is_opaque, opening};
+pub use spot::{Spot, spot_after};
 pub use text_rule::{TEXT_RULES, TextRule};
 pub use walk::push_found;

@@ -6,7 +6,7 @@ ghost use Rattle.std.specs.Str.{chars};
 ghost use Rattle.source_text.specs.Lines.{is_line_terminator};
 ghost use Rattle.source_text.specs.Source.{IsPlace};
 ghost use Rattle.tokens.specs.Scanned.{AllPass};
-ghost use Rattle.text_rules.specs.Quiet.{is_quiet, may_mark};
+ghost use Rattle.text_rules.specs.Quiet.{is_odd, is_quiet, may_mark};
 ghost use Rattle.text_rules.specs.Rows.{is_irregular};
 
 use crate::text_rule::{TextRule, is_irregular};
@@ -35,10 +35,32 @@ fn quiet_end(text: &str, at: usize) -> usize
     end
 }
 
+/// Whether a byte may belong to irregular white space: it is no character of ASCII, or it is U+000B or U+000C.
+#[inline]
+fn is_odd(byte: u8) -> bool
+    ensures { result ≡ is_odd byte }
+{
+    byte >= 128 || byte == 11 || byte == 12
+}
+
+/// Whether one of these bytes may. All of them are asked, so that many are asked at once.
+fn has_odd(bytes: &[u8]) -> bool
+    ensures { result ≡ list_any is_odd bytes.now }
+{
+    let mut found = false;
+    for byte in bytes {
+        found = found | is_odd(*byte);
+    }
+    found
+}
+
 /// Whether a text has white space that is irregular.
 fn has_irregular(text: &str) -> bool
     ensures { result ≡ list_any is_irregular (chars text.now) }
 {
+    if !has_odd(text.as_bytes()) {
+        return false;
+    }
     let mut at = quiet_end(text, 0);
     while let Some(step) = char_at(text, at) {
         if is_irregular(step.c) {

@@ -24,7 +24,7 @@ fn has_mark(source: &str) -> bool
 }
 
 /// Where what is read begins: behind a byte order mark, or the line of `#!`.
-fn opening(source: &str) -> usize
+pub fn opening(source: &str) -> usize
     ensures { result ≡ opening (chars source.now) }
 {
     if has_mark(source) {
@@ -35,7 +35,7 @@ fn opening(source: &str) -> usize
 }
 
 /// Whether white space in a node is a character of its text.
-fn is_opaque(kind: Kind) -> bool
+pub fn is_opaque(kind: Kind) -> bool
     ensures { result ≡ is_opaque kind }
 {
     matches!(kind, Kind::Literal | Kind::TemplateElement)

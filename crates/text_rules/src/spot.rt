@@ -19,7 +19,7 @@ pub enum Spot {
 }
 
 /// Where a reading is behind a character.
-pub(crate) fn spot_after(spot: Spot, c: char) -> Spot
+pub fn spot_after(spot: Spot, c: char) -> Spot
     ensures { result ≡ spot_after spot c }
 {
     match spot {

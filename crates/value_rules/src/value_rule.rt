@@ -2,19 +2,26 @@
 //! table here, and in those of `specs/Rows.antt`.
 
 ghost use Rattle.std.specs.Prelude.{◌≡◌, IfOk};
-ghost use Rattle.value_rules.specs.Rows.{holds, is_number, says};
+ghost use Rattle.value_rules.specs.Rows.{holds, is_number, is_pattern, says};
 
 use number_precision::loses_precision;
+use pattern_analysis::{has_misleading_class, has_useless_reference};
 use std::alloc::{AllocError, Global};
 
 /// A rule on the values of literals.
 #[derive(Clone, Copy, Debug, PartialEq, Eq)]
 pub enum ValueRule {
     NoLossOfPrecision,
+    NoMisleadingCharacterClass,
+    NoUselessBackreference,
 }
 
 /// The rules, in the order of their names.
-pub const VALUE_RULES: [ValueRule; 1] = [ValueRule::NoLossOfPrecision];
+pub const VALUE_RULES: [ValueRule; 3] = [
+    ValueRule::NoLossOfPrecision,
+    ValueRule::NoMisleadingCharacterClass,
+    ValueRule::NoUselessBackreference,
+];
 
 impl ValueRule {
     ghost use Rattle.std.specs.Prelude.{◌≡◌};
@@ -26,6 +33,8 @@ impl ValueRule {
     {
         match self {
             ValueRule::NoLossOfPrecision => "no-loss-of-precision",
+            ValueRule::NoMisleadingCharacterClass => "no-misleading-character-class",
+            ValueRule::NoUselessBackreference => "no-useless-backreference",
         }
     }
 }
@@ -42,6 +51,17 @@ fn is_number(text: &str) -> bool
     (first.is_ascii_digit() || first == b'.') && text[text.len() - 1] != b'n'
 }
 
+/// Whether a literal's text is that of a regular expression.
+fn is_pattern(text: &str) -> bool
+    ensures { result ≡ is_pattern text.now }
+{
+    let text = text.as_bytes();
+    if text.is_empty() {
+        return false;
+    }
+    text[0] == b'/'
+}
+
 /// Whether a rule reports a literal with this text.
 pub(crate) fn holds(alloc: Global, rule: ValueRule, text: &str) -> Result<bool, AllocError>
     ensures { IfOk result (λ b. b ≡ holds rule text.now) }
@@ -53,6 +73,18 @@ pub(crate) fn holds(alloc: Global, rule: ValueRule, text: &str) -> Result<bool, 
             }
             loses_precision(alloc, text)
         },
+        ValueRule::NoMisleadingCharacterClass => {
+            if !is_pattern(text) {
+                return Ok(false);
+            }
+            Ok(has_misleading_class(text))
+        },
+        ValueRule::NoUselessBackreference => {
+            if !is_pattern(text) {
+                return Ok(false);
+            }
+            has_useless_reference(alloc, text)
+        },
     }
 }
 
@@ -62,5 +94,8 @@ pub(crate) fn words(rule: ValueRule) -> &'static str
 {
     match rule {
         ValueRule::NoLossOfPrecision => "digits that the number doesn't keep",
+        ValueRule::NoMisleadingCharacterClass => "several code points seem to be one character",
+        ValueRule::NoUselessBackreference =>
+            "a backreference to a group that isn't matched before it",
     }
 }

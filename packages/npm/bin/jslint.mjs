@@ -4,11 +4,12 @@ import { run } from '../jslint.mjs';
 import { read, warn, write } from './streams.mjs';
 
 const USAGE = `usage: jslint-with-proofs check [--edition 2020|2022] [--module] [--spans] [--settings SETTINGS] FILE
+       jslint-with-proofs mend [--edition 2020|2022] [--module] [--settings SETTINGS] FILE
        jslint-with-proofs fix|unwrap|format|tree|cost [--edition 2020|2022] [--module] FILE
        jslint-with-proofs verify [--edition 2020|2022] [--module] FILE TABLE
        jslint-with-proofs same [--edition 2020|2022] [--module] FILE OTHER
 `;
-const COMMANDS = ['check', 'fix', 'unwrap', 'format', 'tree', 'cost', 'verify', 'same'];
+const COMMANDS = ['check', 'fix', 'unwrap', 'mend', 'format', 'tree', 'cost', 'verify', 'same'];
 
 /** Takes a flag, or an option with its value, out of words before `--`: whether it is there, its value, or null where that is missing. */
 function taken(words, name, hasValue) {
@@ -24,7 +25,7 @@ function taken(words, name, hasValue) {
 function lineOf(words) {
   const [command, ...rest] = words,
     isCheck = command === 'check';
-  const settings = isCheck ? taken(rest, '--settings', true) : undefined,
+  const settings = isCheck || command === 'mend' ? taken(rest, '--settings', true) : undefined,
     hasSpans = isCheck && taken(rest, '--spans');
   const edition = taken(rest, '--edition', true),
     isModule = taken(rest, '--module');

@@ -8,12 +8,13 @@ import { COMMANDS } from './rewriting.mjs';
 import { ENVIRONMENTS, LANGUAGES, settingsWith } from './settings.mjs';
 import { KEPT } from './suppressions.mjs';
 
-export const KINDS = { fix: 'quickfix', all: 'source.fixAll.jslint', layout: 'source.layout.jslint' };
+export const KINDS = { fix: 'quickfix', all: 'source.fixAll.jslint', layout: 'source.layout.jslint', mend: 'source.mend.jslint' };
 const TITLES = {
   pair: 'Take out this pair of parentheses',
   all: 'Take out all unnecessary parentheses',
   casts: 'Take out all unnecessary parentheses, those of casts too',
   layout: 'Write in one layout (drops comments)',
+  mend: 'Make all safe changes',
 };
 const TO_CONST = { true: 'Change let to const (if no other script writes it)', false: 'Change let to const' };
 // So many reports, and so many changes of the settings, are looked at.
@@ -54,6 +55,7 @@ export class Actions {
     if (isWanted(KINDS.fix) && refusal) found.push(...await this.languageActions(document, refusal, settings, signal));
     // (what runs at each save is worked out only if it is asked for by its kind)
     if (areNamed && reports && isWanted(KINDS.all)) found.push(...await this.allAtOnce(document, signal));
+    if (areNamed && reports && isWanted(KINDS.mend)) found.push(...await this.allSafe(document, signal));
     if (areNamed && reports && isWanted(KINDS.layout)) found.push(this.commandAction(TITLES.layout, KINDS.layout, COMMANDS.layout, document));
     return found;
   }
@@ -62,6 +64,12 @@ export class Actions {
     const { revision } = document,
       edits = await this.rewriting.unwrapped(document, signal) ?? [];
     return edits.length ? [{ title: TITLES.all, kind: KINDS.all, edit: this.rewriting.editOf(document, revision, edits) }] : [];
+  }
+
+  async allSafe(document, signal) {
+    const { revision } = document,
+      { edits = [] } = await this.rewriting.answerOf('mend', document, signal);
+    return edits.length ? [{ title: TITLES.mend, kind: KINDS.mend, edit: this.rewriting.editOf(document, revision, edits) }] : [];
   }
 
   commandAction(title, kind, command, document) {

@@ -8,7 +8,7 @@
 import { isOfCast, losesCast, mayHaveCasts } from './casts.mjs';
 import { applied, editsBetween } from './edits.mjs';
 
-const WORD = /[$_\p{ID_Continue}\u200c\u200d\\#]/u;
+const WORD = /[$_\p{ID_Continue}\u200d\u200c\\#]/u;
 const OPERATOR = /[+\-/*<>=&|?!.%^]/;
 
 /** Whether two characters that come together could be read as one token, or begin a comment. */

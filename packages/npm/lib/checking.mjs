@@ -48,7 +48,7 @@ export class Checking {
     const { documents } = this.editor,
       document = documents.get(uri);
     if (this.editor.isSettings(uri)) {
-      this.checkSettings({ uri, text: document.text });
+      this.planSettings(document, wait);
       const file = fileOf(uri);
       for (const it of documents.values()) if (this.editor.isScript(it) && this.editor.settingsFor(it.uri)?.file === file) this.plan(it.uri, wait);
       return;
@@ -58,6 +58,17 @@ export class Checking {
     const running = { control: new AbortController() };
     this.running.set(uri, running);
     running.timer = setTimeout(() => this.checkNow(document, running), wait);
+  }
+
+  planSettings(document, wait) {
+    const { uri } = document,
+      running = { control: new AbortController() };
+    this.stop(uri);
+    this.running.set(uri, running);
+    running.timer = setTimeout(() => {
+      this.running.delete(uri);
+      this.checkSettings({ uri, text: document.text });
+    }, wait);
   }
 
   async checkNow(document, running) {
@@ -121,19 +132,25 @@ export class Checking {
   }
 
   settingsAreTaken(settings) {
-    this.judged.set(settings.uri, { text: settings.text, isRefused: false });
+    this.judged.set(settings.uri, { text: settings.text, by: this.readBy(), isRefused: false });
     this.publish(settings.uri, []);
+  }
+
+  /** Where settings are read that the module doesn't know, as a text. */
+  readBy() {
+    return JSON.stringify(this.editor.reading());
   }
 
   /** Says in settings where they are refused. */
   async checkSettings({ uri, text }) {
-    if (this.judged.get(uri)?.text === text) return;
-    this.judged.set(uri, { text, isRefused: false });
+    const by = this.readBy(),
+      isAsked = () => this.judged.get(uri)?.text === text && this.judged.get(uri).by === by;
+    if (isAsked()) return;
+    this.judged.set(uri, { text, by, isRefused: false });
     try {
-      const found = await this.engine.run('settings', { settings: text }, { rank: 0 }),
-        now = this.judged.get(uri);
-      if (now?.text !== text) return;
-      now.isRefused = found.line !== null;
+      const found = await this.engine.run('settings', { settings: text, reading: this.editor.reading() }, { rank: 0 });
+      if (!isAsked()) return;
+      this.judged.get(uri).isRefused = found.line !== null;
       this.publish(uri, this.shown.settings(new Document({ uri, text }, this.editor.encoding), found));
     } catch (error) {
       if (error.name !== 'AbortError') this.log(error.stack);

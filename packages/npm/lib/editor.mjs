@@ -9,13 +9,15 @@ import { CODES, ResponseError, stringOf } from './protocol.mjs';
 export const NAME = 'jslint';
 export const SEVERITIES = { error: 1, warning: 2, information: 3, hint: 4 };
 const oneOf = (...words) => (it) => words.includes(it);
+const isPath = (it) => it === null || (typeof it === 'string' && path.isAbsolute(it));
 const number = (least, most) => (it) => Number.isInteger(it) && it >= least && it <= most;
 // The editor's settings: for each what holds without it, and what it may be.
 const OPTIONS = {
   settings: [null, (it) => it === null || (typeof it === 'string' && it !== '')],
   format: ['unwrap', oneOf('unwrap', 'layout', 'lines')],
   formatWords: [[], (it) => Array.isArray(it) && it.every((each) => typeof each === 'string' && isFormatWord(each))],
-  program: [null, (it) => it === null || (typeof it === 'string' && path.isAbsolute(it))],
+  program: [null, isPath],
+  jslintFiles: [null, isPath],
   unsupported: ['information', oneOf(...Object.keys(SEVERITIES), 'off')],
   severity: ['warning', oneOf(...Object.keys(SEVERITIES))],
   debounce: [120, number(0, 60000)],
@@ -110,12 +112,26 @@ export class Editor {
     return found ? { ...found, uri: this.openOf(found.file)?.uri ?? uriOf(found.file) } : null;
   }
 
-  /** How a text is read: by which settings, whether its name or package.json says that it is a module or a script, and whether comments in it turn reports
-   * off. */
+  /** Where `jslint-files` may be, which reads settings that the module doesn't. */
+  reading() {
+    const { jslintFiles, program } = this.options;
+    return { jslintFiles, program };
+  }
+
+  /** How a text is read: by which settings, from which place these and the text are, whether its name or package.json says that it is a module or a script, and
+   * whether comments in it turn reports off. */
   askedFor(uri) {
     const file = fileOf(uri),
-      openText = (name) => this.openOf(name)?.text ?? null;
-    return { settings: this.settingsFor(uri)?.text ?? '', kind: file === null ? null : this.beside.kindOf(file, openText), areRead: this.options.suppressions };
+      openText = (name) => this.openOf(name)?.text ?? null,
+      settings = this.settingsFor(uri);
+    return {
+      settings: settings?.text ?? '',
+      settingsFile: settings?.file ?? null,
+      file,
+      reading: this.reading(),
+      kind: file === null ? null : this.beside.kindOf(file, openText),
+      areRead: this.options.suppressions,
+    };
   }
 
   /** Whether a text is one for which anything is said or offered. */

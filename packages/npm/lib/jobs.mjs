@@ -5,6 +5,7 @@ import { Judge, mayHaveComments } from './changes.mjs';
 import { applied, editsBetween, layoutEditsBetween } from './edits.mjs';
 import { earlyHint, syntaxHint } from './hints.mjs';
 import { Languages, inLanguage } from './languages.mjs';
+import { Layers } from './layers.mjs';
 import { formattedBy } from './program.mjs';
 import { withoutFormat } from './settings.mjs';
 import { lineAt, lineStarts, suppressingEdits, withoutSuppressed } from './suppressions.mjs';
@@ -53,7 +54,8 @@ const isButForCr = (text, other) => text?.replaceAll('\r\n', '\n') === other.rep
 /** The commands, under settings that may have a table `[format]`. */
 function passingOverFormat(commands) {
   const taken = (more) => (more?.settings === undefined ? more : { ...more, settings: withoutFormat(more.settings) });
-  return { ...commands, check: (text, more) => commands.check(text, taken(more)), spans: (text, more) => commands.spans(text, taken(more)) };
+  const under = (name) => (text, more) => commands[name](text, taken(more));
+  return { ...commands, check: under('check'), spans: under('spans'), mend: under('mend') };
 }
 
 export class Jobs {
@@ -61,7 +63,7 @@ export class Jobs {
   constructor(given) {
     const commands = passingOverFormat(given);
     const isTaken = (settings, language) => !HALF_PAIR.test(settings) && answered(() => commands.check('', { settings, language })) !== null;
-    Object.assign(this, { commands, judge: null, last: null, languages: new Languages(isTaken) });
+    Object.assign(this, { commands, judge: null, last: null, languages: new Languages(isTaken), layers: new Layers((it) => this.areTaken(it)) });
   }
 
   /** What a call answers by the commands of the first language in which a job's text isn't refused; else the refusal that got furthest. */
@@ -71,7 +73,7 @@ export class Jobs {
     // (half a pair of surrogates has no UTF-8, so a text with one is no script's)
     if (half) return { refusal: { code: 'utf8', message: 'half a pair of surrogates, which has no UTF-8', start: half.index } };
     let refusal = null;
-    for (const language of this.languages.triedFor(job)) {
+    for (const language of this.languages.triedFor(this.layers.resolved(job))) {
       try {
         return call(inLanguage(this.commands, language), language);
       } catch (error) {
@@ -130,8 +132,9 @@ export class Jobs {
   }
 
   /** The reports, from where to where each is underlined, how many more there are, and whether pairs of casts are kept. */
-  check(job) {
-    if (HALF_PAIR.test(job.settings)) return { refusal: { code: 'settings', message: 'bad settings', start: 0 } };
+  check(given) {
+    const job = this.layers.resolved(given);
+    if (HALF_PAIR.test(job.settings) || job.why) return { refusal: { code: 'settings', message: job.why ?? 'bad settings', start: 0 } };
     return this.tried(job, (commands) => {
       const { reports: all, hasCasts } = this.found(job, commands),
         reports = all.slice(0, MOST_REPORTS);
@@ -154,6 +157,13 @@ export class Jobs {
         hasCasts: edits.length > 0 && mayHaveCasts(text) && (losesCast(text, unwrapped) || commands.spans(text).some((it) => isOfCast(text, it))),
       };
     });
+  }
+
+  /** The edits that make the safe changes for what is reported; none where comments may turn reports off, which the program doesn't know. */
+  mend(job) {
+    const { text, settings, areRead } = job;
+    if (HALF_PAIR.test(settings) || (areRead && text.includes('jslint-disable-'))) return { edits: [] };
+    return this.tried(job, (commands) => ({ edits: editsBetween(text, commands.mend(text, { settings })) }));
   }
 
   /** The edits that make the fixed text, with CR LF where the first line of the text ends so and that keeps the tree. */
@@ -211,11 +221,12 @@ export class Jobs {
   }
 
   /** The edit that puts a comment which turns a report off, or null: the fixed text stays, and the rule's reports on that line go alone. */
-  suppress(job) {
-    const {
-      text,
-      wanted: { rule, start },
-    } = job;
+  suppress(given) {
+    const job = this.layers.resolved(given),
+      {
+        text,
+        wanted: { rule, start },
+      } = job;
     return this.judged(job, (judge) => {
       const { commands } = judge,
         fixed = judge.own('fix'),
@@ -230,9 +241,18 @@ export class Jobs {
     });
   }
 
-  /** Where settings are no TOML; else how many of their lines are taken, counted from the first; null where all are, and nothing where that isn't known. */
-  settings({ settings }) {
+  /** Where settings are no TOML; else how many of their lines are taken, counted from the first; null where all are, and nothing where that isn't known.
+   * And why they are refused, where that is known. */
+  settings(job) {
+    const { settings } = job;
     if (this.areTaken(settings)) return { line: null };
+    const told = this.layers.read(job);
+    if (told?.settings) return { line: null };
+    if (told?.refused) return { start: indexOf(settings, told.refused.line, told.refused.column), words: told.refused.words };
+    return { ...this.faultIn(settings), ...(told ? { words: told.fault } : {}) };
+  }
+
+  faultIn(settings) {
     const start = this.placeIn(settings);
     if (start !== undefined) return { start };
     const lines = settings.split('\n');
@@ -255,10 +275,11 @@ export class Jobs {
 
   /** What is reported under settings, or null where the text or the settings are refused. The last one is kept: several changes of settings are tried. */
   shortCheck(job, settings) {
-    const asked = JSON.stringify([job.kind, settings]);
+    const asked = JSON.stringify([job.kind, job.file, settings]);
     if (this.last?.text === job.text && this.last.asked === asked) return this.last.reports;
-    const keyed = (it) => ({ ...it, key: `${it.start} ${it.rule} ${it.message}` });
-    const { reports = null } = this.tried({ ...job, settings }, (commands) => ({ reports: commands.spans(job.text, { settings }).map(keyed) }));
+    const keyed = (it) => ({ ...it, key: `${it.start} ${it.rule} ${it.message}` }),
+      own = this.layers.resolved({ ...job, settings });
+    const { reports = null } = own.why ? {} : this.tried(own, (commands) => ({ reports: commands.spans(job.text, { settings: own.settings }).map(keyed) }));
     if (settings === job.settings) this.last = { text: job.text, asked, reports };
     return reports;
   }

@@ -23,6 +23,7 @@ export function inLanguage(commands, language) {
     tree: (text, more) => commands.tree(text, { ...more, ...options }),
     fix: (text) => commands.fix(text, options),
     unwrap: (text) => commands.unwrap(text, options),
+    mend: (text, more) => commands.mend(text, { ...more, ...options }),
     format: (text) => commands.format(text, options),
     treeText: (text) => commands.treeText(text, options),
     cost: (text) => commands.cost(text, options),

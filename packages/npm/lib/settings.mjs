@@ -25,8 +25,27 @@ function withName(text, key, name, lineEnd) {
   return `${text.slice(0, index)}${head}${names}${names.trim() ? ', ' : ''}${word}${blanks}]${text.slice(index + all.length)}`;
 }
 
+const SEVERITY = /((?:^|[\n{,.])[ \t]*severity[ \t]*=[ \t]*)(?:true|[12](?!\w)|"(?:warn|error)"|'(?:warn|error)')/;
+const OFF = 'severity = "off"';
+
+/** The text with a rule turned off that has a table with options; null where it has none. */
+function withOptionsOff(text, rule, lineEnd) {
+  const inline = new RegExp(`((?:^|[{,])[ \\t]*(?:rules\\.)?"?${rule}"?[ \\t]*=[ \\t]*)(\\{[^}\\n]*\\})`, 'm'),
+    head = new RegExp(`^([ \\t]*\\[rules\\."?${rule}"?\\][ \\t]*(?:#[^\\r\\n]*)?)((?:\\r?\\n(?![ \\t]*\\[)[^\\r\\n]*)*)`, 'm'),
+    dotted = new RegExp(`^([ \\t]*rules\\.${rule})(\\.severity\\b[^\\r\\n]*)`, 'm'),
+    option = new RegExp(`^([ \\t]*)(?=rules\\.${rule}\\.)`, 'm');
+  const said = (table) => (SEVERITY.test(table) ? table.replace(SEVERITY, '$1"off"') : null);
+  if (inline.test(text))
+    return text.replace(inline, (_, start, table) => `${start}${said(table) ?? table.replace('{', /[^{}\s]/.test(table) ? `{ ${OFF},` : `{ ${OFF}`)}`);
+  if (head.test(text)) return text.replace(head, (_, start, table) => `${start}${said(table) ?? `${lineEnd}${OFF}${table}`}`);
+  if (dotted.test(text)) return text.replace(dotted, (_, start, value) => `${start}${said(value) ?? value}`);
+  return option.test(text) ? text.replace(option, (_, blanks) => `${blanks}rules.${rule}.${OFF}${lineEnd}${blanks}`) : null;
+}
+
 /** The text with a rule turned off. */
 function withoutRule(text, rule, lineEnd) {
+  const withOptions = withOptionsOff(text, rule, lineEnd);
+  if (withOptions !== null) return withOptions;
   const on = new RegExp(`((?:^|[{,])[ \\t]*(?:rules\\.)?"?${rule}"?[ \\t]*=[ \\t]*)(?:true|[12](?!\\w)|"(?:warn|error)"|'(?:warn|error)')`, 'm');
   if (on.test(text)) return text.replace(on, '$1false');
   const head = /^([ \t]*\[rules\][ \t]*(?:#[^\r\n]*)?)(?=\r?$)/m,

@@ -89,15 +89,17 @@ export class Shown {
 
   /** Where settings are refused: the rest of the line of a place, or all of it where nothing follows; else from which line on. The line is null where they
    * aren't, and nothing where it isn't known. */
-  settings(document, { line, start }) {
+  settings(document, { line, start, words }) {
     if (line === null) return [];
     if (start !== undefined) {
       const at = document.lineAt(start),
         end = document.endOf(at);
-      return [this.diagnostic(document, start < end ? start : document.lines[at], end, SEVERITIES.error, 'settings', 'bad settings: no TOML from here on')];
+      return [
+        this.diagnostic(document, start < end ? start : document.lines[at], end, SEVERITIES.error, 'settings', words ?? 'bad settings: no TOML from here on'),
+      ];
     }
     const at = Math.min(line ?? 0, document.lines.length - 1),
-      message = line ? 'bad settings: the lines before this one are taken' : 'bad settings';
+      message = words ?? (line ? 'bad settings: the lines before this one are taken' : 'bad settings');
     return [this.diagnostic(document, document.lines[at], document.endOf(at), SEVERITIES.error, 'settings', message)];
   }
 

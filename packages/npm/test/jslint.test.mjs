@@ -3,7 +3,7 @@ import assert from 'node:assert/strict';
 import { readFileSync } from 'node:fs';
 import { test } from 'node:test';
 import { Worker } from 'node:worker_threads';
-import { Refused, check, cost, fix, format, indexOf, run, same, spans, tree, treeText, unwrap, verify } from '../jslint.mjs';
+import { Refused, check, cost, fix, format, indexOf, mend, run, same, spans, tree, treeText, unwrap, verify } from '../jslint.mjs';
 
 /** The refusal of a call. */
 function refusal(call) {
@@ -82,6 +82,16 @@ test('format', () => {
   assert.equal(format(''), '');
   assert.equal(format('export default(a)', { language: 'module' }), 'export default (a);\n');
   assert.deepEqual(told(refusal(() => format('é; b c')), 'code', 'line', 'column', 'status', 'command'), ['syntax', 1, 6, 2, 'format']);
+});
+
+test('mend', () => {
+  assert.equal(mend("typeof é == 'b' // c\r\n"), "typeof é === 'b' // c\r\n");
+  assert.equal(mend(';;', { settings: '[rules]\nno-extra-semi = true\n' }), '');
+  assert.equal(mend("typeof a == 'b'", { settings: '[rules]\neqeqeq = false\n' }), "typeof a == 'b'");
+  assert.equal(mend("export let a = typeof b == 'c';", { language: 'module' }), "export const a = typeof b === 'c';");
+  for (const text of ['', 'a', ' f ( a , b ) // as it is\n', 'a == b']) assert.equal(mend(text), text);
+  assert.deepEqual(told(refusal(() => mend('é; b c')), 'code', 'line', 'column', 'status', 'command'), ['syntax', 1, 6, 2, 'mend']);
+  assert.deepEqual(told(refusal(() => mend('a', { settings: '[' })), 'code', 'status', 'command'), ['settings', 2, 'mend']);
 });
 
 test('unwrap', () => {

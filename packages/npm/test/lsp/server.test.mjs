@@ -172,8 +172,10 @@ test('code actions: one pair, all, let to const', () =>
       const onSave = await actionsAt(client, 'actions.js', range(0, 0, 9, 0), { only: ['source.fixAll'] });
       assert.deepEqual(onSave.map((it) => it.kind), ['source.fixAll.jslint']);
       const kindsOf = async (only) => (await actionsAt(client, 'actions.js', range(1, 0, 1, 9), { only })).map((it) => it.kind);
-      assert.deepEqual(await kindsOf(['source']), ['source.fixAll.jslint', 'source.layout.jslint']);
-      assert.deepEqual(await kindsOf(['']), ['quickfix', 'quickfix', 'source.fixAll.jslint', 'source.layout.jslint']);
+      assert.deepEqual(await kindsOf(['source']), ['source.fixAll.jslint', 'source.mend.jslint', 'source.layout.jslint']);
+      const safe = await actionsAt(client, 'actions.js', range(0, 0, 9, 0), { only: ['source.mend'] });
+      assert.deepEqual(of(safe, 'Make all safe changes'), [text.replace('let', 'const')]);
+      assert.deepEqual(await kindsOf(['']), ['quickfix', 'quickfix', 'source.fixAll.jslint', 'source.mend.jslint', 'source.layout.jslint']);
       assert.deepEqual([await kindsOf([]), await kindsOf(['refactor'])], [['quickfix', 'quickfix'], []]);
       await client.open(uriOf('inner.js'), '{ let a = 1; a; }');
       assert.deepEqual((await actionsAt(client, 'inner.js', range(0, 6, 0, 6))).map((it) => [it.title, it.isPreferred]), [

@@ -240,6 +240,28 @@ test('settings: what is put in is read', () => {
     assert.equal(settingsWith(`[rules]\nno-var = ${it} # c\n`, { rule: 'no-var', name: null }), '[rules]\nno-var = false # c\n');
 });
 
+test('settings: a rule that has options is turned off in its table, and the options stay', () => {
+  for (const [text, wanted] of [
+    ['rules.no-undef = { typeof = true }\n', 'rules.no-undef = { severity = "off", typeof = true }\n'],
+    ['rules.no-undef = {}\n', 'rules.no-undef = { severity = "off"}\n'],
+    ['rules = { no-var = 1, no-undef = { typeof = true, severity = 1 } }\n', 'rules = { no-var = 1, no-undef = { typeof = true, severity = "off" } }\n'],
+    ['[rules]\n"no-undef" = {severity=true,typeof = true} # c\nno-var = 0\n', '[rules]\n"no-undef" = {severity="off",typeof = true} # c\nno-var = 0\n'],
+    ['[rules.no-undef] # c\r\ntypeof = true\r\n', '[rules.no-undef] # c\r\nseverity = "off"\r\ntypeof = true\r\n'],
+    [
+      "[rules.no-undef]\ntypeof = true\nseverity = 'warn'\n[rules.eqeqeq]\nseverity = 2\n",
+      '[rules.no-undef]\ntypeof = true\nseverity = "off"\n[rules.eqeqeq]\nseverity = 2\n',
+    ],
+    ['[rules.no-undef]', '[rules.no-undef]\nseverity = "off"'],
+    ['rules.no-undef.typeof = true\nrules.no-var = 1\n', 'rules.no-undef.severity = "off"\nrules.no-undef.typeof = true\nrules.no-var = 1\n'],
+    ['rules.no-undef.typeof = true\nrules.no-undef.severity = "warn"\n', 'rules.no-undef.typeof = true\nrules.no-undef.severity = "off"\n'],
+  ]) {
+    assert.equal(settingsWith(text, { rule: 'no-undef', name: null }), wanted);
+    const rulesBy = (settings) => check('typeof x; eval(var_ == 1);', { settings }).map((it) => it.rule);
+    assert.deepEqual(rulesBy(wanted), rulesBy(text).filter((it) => it !== 'no-undef'), text);
+    assert.ok(rulesBy(text).includes('no-undef'), text);
+  }
+});
+
 const rows = JSON.parse(readFileSync(new URL('hints.rows.json', import.meta.url), 'utf8'));
 test('hints: each row', () => {
   for (const { text, id, language } of rows) {

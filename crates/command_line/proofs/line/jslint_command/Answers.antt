@@ -1,6 +1,6 @@
 use Rattle.std.proofs.Common.{◌≡◌, refl, Result, Ok, Err, IfOk, IsOkAnd}
 use Rattle.clap.specs.Words.{App, app_of, with_subcommand}
-use Rattle.commands.specs.declared.command.Command.TheVariants.{Check, Tree, Fix, Unwrap, Format, Cost, Verify, Same}
+use Rattle.commands.specs.declared.command.Command.TheVariants.{Check, Tree, Fix, Unwrap, Mend, Format, Cost, Verify, Same}
 use Rattle.commands.specs.Commands.{default_format}
 use Rattle.commands.specs.declared.command.ReportForm.TheVariants.{Places}
 use Rattle.command_line.specs.CommandLine.{bare_app, command_app}
@@ -25,7 +25,8 @@ returns c =
     let two = one_more app_of c.command_of_jslint-2.result (command_app Tree) _ _ _ one c.command_of_jslint-2.ensures.shape c.in_ok-jslint-2.ensures in
     let three = one_more app_of c.command_of_jslint-3.result (command_app Fix) _ _ _ two c.command_of_jslint-3.ensures.shape c.in_ok-jslint-3.ensures in
     let four = one_more app_of c.command_of_jslint-4.result (command_app Unwrap) _ _ _ three c.command_of_jslint-4.ensures.shape c.in_ok-jslint-4.ensures in
-    let five = one_more app_of c.command_of_jslint-5.result (command_app (Format default_format)) _ _ _ four c.command_of_jslint-5.ensures.shape c.in_ok-jslint-5.ensures in
-    let six = one_more app_of c.command_of_jslint-6.result (command_app Cost) _ _ _ five c.command_of_jslint-6.ensures.shape c.in_ok-jslint-6.ensures in
-    let seven = one_more app_of c.command_of_jslint-7.result (command_app Verify) _ _ _ six c.command_of_jslint-7.ensures.shape c.in_ok-jslint-7.ensures in
-    record { shape = last app_of app_of c.command_of_jslint-8.result c.with_command-8.result (command_app Same) _ _ seven c.command_of_jslint-8.ensures.shape c.with_command-8.ensures }
+    let five = one_more app_of c.command_of_jslint-5.result (command_app Mend) _ _ _ four c.command_of_jslint-5.ensures.shape c.in_ok-jslint-5.ensures in
+    let six = one_more app_of c.command_of_jslint-6.result (command_app (Format default_format)) _ _ _ five c.command_of_jslint-6.ensures.shape c.in_ok-jslint-6.ensures in
+    let seven = one_more app_of c.command_of_jslint-7.result (command_app Cost) _ _ _ six c.command_of_jslint-7.ensures.shape c.in_ok-jslint-7.ensures in
+    let eight = one_more app_of c.command_of_jslint-8.result (command_app Verify) _ _ _ seven c.command_of_jslint-8.ensures.shape c.in_ok-jslint-8.ensures in
+    record { shape = last app_of app_of c.command_of_jslint-9.result c.with_command-9.result (command_app Same) _ _ eight c.command_of_jslint-9.ensures.shape c.with_command-9.ensures }

@@ -8,11 +8,11 @@ use Rattle.clap.proofs.WalkLemmas.{first_value-rows}
 use Rattle.commands.specs.Commands.{word_of}
 use Rattle.commands.specs.declared.command.FormatChoice.{FormatChoice}
 use Rattle.commands.specs.declared.command.Command.{Command}
-use Rattle.commands.specs.declared.command.Command.TheVariants.{Check, Tree, Fix, Unwrap, Format, Cost, Verify, Same}
+use Rattle.commands.specs.declared.command.Command.TheVariants.{Check, Tree, Fix, Unwrap, Mend, Format, Cost, Verify, Same}
 use Rattle.commands.specs.declared.command.ReportForm.{ReportForm}
 use Rattle.command_line.specs.CommandLine.{HasFiles, HasForm, HasSecond, form_of, format_of, is_set, plain}
 use Rattle.command_line.proofs.line.line_of.Goals as goal
-use Rattle.command_line.proofs.line.line_of.Goals.{in-Check, in-Format, in-Verify, in-Same, in-Tree}
+use Rattle.command_line.proofs.line.line_of.Goals.{in-Check, in-Mend, in-Format, in-Verify, in-Same, in-Tree}
 
 abbrev text_of : Option (Bor Text) → Option Text
 text_of = option_map (λ s. s.now)
@@ -40,6 +40,7 @@ has_file (Check form) rows h = h
 has_file Tree rows h = h
 has_file Fix rows h = h
 has_file Unwrap rows h = h
+has_file Mend rows h = h
 has_file (Format choice) rows h = h
 has_file Cost rows h = h
 has_file Verify rows h = h.0
@@ -51,6 +52,7 @@ plain_word (Check form) = refl
 plain_word Tree = refl
 plain_word Fix = refl
 plain_word Unwrap = refl
+plain_word Mend = refl
 plain_word (Format choice) = refl
 plain_word Cost = refl
 plain_word Verify = refl
@@ -61,6 +63,7 @@ plain_files (Check form) rows h = h
 plain_files Tree rows h = h
 plain_files Fix rows h = h
 plain_files Unwrap rows h = h
+plain_files Mend rows h = h
 plain_files (Format choice) rows h = h
 plain_files Cost rows h = h
 plain_files Verify rows h = h
@@ -80,6 +83,10 @@ Serves word rows command second = (word_of command ≡ word_of word) × HasSecon
 settings : (word : Command) (rows : List Row) (command : Command) (given second : Option (Bor Text)) (was form : ReportForm) → word ≡ Check was → command ≡ Check form → second ≡ given
     → text_of given ≡ first_of (codes "settings") rows → form ≡ form_of rows → Serves word rows command second
 settings word rows command given second was form e d same h by_flag = rw (e, d, same) (refl, h, by_flag)
+
+mending : (word : Command) (rows : List Row) (command : Command) (given second : Option (Bor Text)) → word ≡ Mend → command ≡ word → second ≡ given → text_of given ≡ first_of (codes "settings") rows
+    → Serves word rows command second
+mending word rows command given second e d same h = rw (d, e, same) (refl, h, tt)
 
 choice : (word : Command) (rows : List Row) (command : Command) (second : Option (Bor Text)) (was is : FormatChoice) → word ≡ Format was → command ≡ Format is → second ≡ None
     → is ≡ format_of rows → Serves word rows command second
@@ -122,6 +129,8 @@ returns c =
     let serves : Serves c.unwrap-plain.result rows c.match-plain.command.0 c.match-plain.command.1 = elim c.match-plain.branch [
       | in-Check w ↦ settings _ rows _ w.get_str-in-Check.result _ _ w.form_met.result w.in-Check.is (ap (λ p. p.0) w.command-is) (ap (λ p. p.1) w.command-is)
           (some_text found rows (codes "settings") _ w.get_str-in-Check.ensures rows_are) (w.form_met.ensures ∙ ap form_of rows_are)
+      | in-Mend w ↦ mending _ rows _ w.get_str-in-Mend.result _ w.in-Mend.is (ap (λ p. p.0) w.command-is) (ap (λ p. p.1) w.command-is)
+          (some_text found rows (codes "settings") _ w.get_str-in-Mend.ensures rows_are)
       | in-Format w ↦ choice _ rows _ _ _ w.format_met.result w.in-Format.is (ap (λ p. p.0) w.command-is) (ap (λ p. p.1) w.command-is) (w.format_met.ensures ∙ ap format_of rows_are)
       | in-Verify w ↦ table _ rows _ w.get_str-in-Verify.result _ w.in-Verify.is (ap (λ p. p.0) w.command-is) (ap (λ p. p.1) w.command-is)
           (some_text found rows (codes "table") _ w.get_str-in-Verify.ensures rows_are) (subst (λ k. HasFiles k rows) (sym plain_is) (plain_files command rows c.requires.3))
@@ -134,7 +143,11 @@ returns c =
       sym (some_text found rows (codes "file") _ c.get_str.ensures rows_are) ∙ ap text_of c.unwrap-file.ensures,
       serves.1,
       serves.2,
-      (some_text found rows (codes "edition") _ c.get_str-edition.ensures rows_are, c.is_set-is_module.ensures ∙ ap (is_set (codes "module")) rows_are),
+      (
+        some_text found rows (codes "edition") _ c.get_str-edition.ensures rows_are,
+        c.is_set-is_module.ensures ∙ ap (is_set (codes "module")) rows_are,
+        c.is_set-is_any.ensures ∙ ap (is_set (codes "any")) rows_are,
+      ),
       c.is_set-is_list.ensures ∙ ap (is_set (codes "list")) rows_are,
       some_text found rows (codes "commas") _ c.get_str-commas.ensures rows_are,
     )

@@ -1,8 +1,13 @@
-use Rattle.std.proofs.Common.{refl}
+use Rattle.std.proofs.Common.{refl, sym, ◌∙◌}
 use Rattle.tree.specs.Node.{node_tree}
 use Rattle.flow_rules.specs.Rows.{of_node, of_rules}
+use Rattle.flow_rules.proofs.PlainNodes.{silent-said}
 use Rattle.flow_rules.proofs.WalkLemmas.{append-turn, grows-on}
 use Rattle.flow_rules.proofs.walk.push_each.Goals as goal
+
+pub returns-then-is_silent-clause-found : goal.returns-then-is_silent-clause-found
+returns-then-is_silent-clause-found c =
+    silent-said c.args.walk.source.now c.args.walk.rules.now c.args.around c.args.flow (node_tree c.args.node) c.args.out.now.items (sym c.is_silent.ensures ∙ c.if-is_silent.true)
 
 pub loop-rule-preserved : goal.loop-rule-preserved
 loop-rule-preserved c = record {

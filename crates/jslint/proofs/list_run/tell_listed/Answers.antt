@@ -8,7 +8,7 @@ use Rattle.jslint.proofs.list_run.tell_listed.Goals as goal
 
 pub returns-in-Ok : goal.returns-in-Ok
 returns-in-Ok g c =
-    inl (tells_names (TellsFile (Gives (g.R.FileSystem.opens c.args.teller.now.rt.now) (g.R.FileSystem.reads c.args.teller.now.rt.now) g.R.File.Read.remaining g.R.Reader.Read.remaining) c.args.teller.now.command c.args.teller.now.choice c.args.teller.now.settings.now) (map (λ n. n.now) c.deref.result.now) (names_of c.args.list.now)
+    inl (tells_names (TellsFile (Gives (g.R.FileSystem.opens c.args.teller.now.rt.now) (g.R.FileSystem.reads c.args.teller.now.rt.now) g.R.File.Read.remaining g.R.Reader.Read.remaining) c.args.teller.now.command c.args.teller.now.asked c.args.teller.now.settings.now) (map (λ n. n.now) c.deref.result.now) (names_of c.args.list.now)
     (g.O.Sink.taken c.args.output.now) (g.O.Sink.taken c.tell_each.new.output) (g.W.Sink.taken c.args.errors.now) (g.W.Sink.taken c.tell_each.new.errors)
     (g.O.Sink.failed c.args.output.now) (g.W.Sink.failed c.args.errors.now) (g.O.Sink.failed c.tell_each.new.output) (g.W.Sink.failed c.tell_each.new.errors) c.tell_each.result
     (ap (map (λ n. n.now)) c.deref.ensures.value ∙ c.in-Ok.ensures) c.requires.writes c.requires.tells c.tell_each.ensures)

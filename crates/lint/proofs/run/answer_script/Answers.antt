@@ -8,7 +8,7 @@ pub returns-in-Err-clause-answer : goal.returns-in-Err-clause-answer
 returns-in-Err-clause-answer g c = λ finds choice own seen before.
     rw (c.refused_at.ensures.fault, c.refused_at.ensures.first)
     (script_refused finds c.args.command choice c.args.source.now _ c.args.language c.in-Err.fault _ _ _ seen c.requires.source c.in-Err.ensures.refused c.refused_at.ensures.place c.refused_at.ensures.hint before
-    (own_tried finds c.args.command choice c.args.source.now _ c.args.language _ seen c.requires.unchecked own before c.requires.ready))
+    (own_tried finds c.args.command choice c.args.source.now _ c.args.language _ seen c.requires.unchecked c.requires.unmended own before c.requires.ready))
 
 pub returns-in-Same-clause-answer : goal.returns-in-Same-clause-answer
 returns-in-Same-clause-answer g c = λ finds choice own.
@@ -22,7 +22,7 @@ returns-in-Ok-answer-clause-answer g c = λ finds choice own.
     let reading : IsReading c.args.language c.args.source.now parsed.program parsed.pairs.items = record { accepted = c.in-Ok.ensures.accepted; only = c.in-Ok.ensures.only } in (
       (c.in-Ok-answer.ensures.answer (λ view. [])).0,
       λ given read. answers_behind finds c.args.command choice c.args.source.now _ c.args.language parsed.program parsed.pairs.items c.in-Ok-answer.answer _ given own
-          c.requires.unchecked c.requires.source reading (c.in-Ok-answer.ensures.answer finds) read,
+          c.requires.unchecked c.requires.unmended c.requires.source reading (c.in-Ok-answer.ensures.answer finds) read,
     )
 
 pub returns-clause-answer : goal.returns-clause-answer

@@ -1,7 +1,13 @@
+use Rattle.std.proofs.Common.{sym, ◌∙◌}
 use Rattle.tree.specs.Node.{node_tree}
 use Rattle.literal_rules.specs.Found.{of_node}
+use Rattle.literal_rules.proofs.BareNodes.{bare-found}
 use Rattle.literal_rules.proofs.Passes.{each-turn, grown}
 use Rattle.literal_rules.proofs.walk.push_of_node.Goals as goal
+
+-- rules read no text of the node
+pub returns-then-is_bare-clause-found : goal.returns-then-is_bare-clause-found
+returns-then-is_bare-clause-found c = bare-found c.args.rules.now (node_tree c.args.node) c.args.out.now.items (sym c.is_bare.ensures ∙ c.if-is_bare.true)
 
 pub loop-rule-preserved : goal.loop-rule-preserved
 loop-rule-preserved c = record {

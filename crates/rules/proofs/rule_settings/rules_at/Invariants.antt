@@ -5,5 +5,5 @@ use Rattle.rules.proofs.rule_settings.rules_at.Given as goal
 
 abbrev pub invariant-loop-rule : goal.invariant-loop-rule
 invariant-loop-rule l =
-    l.found.items ++ rules_at l.severity (severity_of l.set (option_map (λ names. map string_bytes names.keys) l.only) (table_view l.table)) (drop l.rule-index l.rules)
-    ≡ rules_at l.severity (severity_of l.set (option_map (λ names. map string_bytes names.keys) l.only) (table_view l.table)) l.rules
+    l.found.items ++ rules_at l.severity (severity_of l.sets (option_map (λ names. map string_bytes names.keys) l.only) (table_view l.table)) (drop l.rule-index l.rules)
+    ≡ rules_at l.severity (severity_of l.sets (option_map (λ names. map string_bytes names.keys) l.only) (table_view l.table)) l.rules

@@ -1,0 +1,9 @@
+pub mod Comments
+pub mod Words
+pub mod Directives
+pub mod Lines
+pub mod Suppressions
+pub mod Deciding
+pub mod Sweeps
+pub mod Left
+pub mod Told
