@@ -146,7 +146,10 @@ const REASONS = {
     eslint: [['`eval` that isn\'t called by its name', (source, place) => source.nameAt(place)?.parent.callee === undefined || source.text[place - 1] === '.']],
   },
   'no-extend-native': {
-    eslint: [['`Object.defineProperty` or its kin', (source, place) => source.nodeAt(place, 'CallExpression') !== undefined]],
+    eslint: [
+      ['`Object.defineProperty` or its kin', (source, place) => source.nodeAt(place, 'CallExpression') !== undefined],
+      ['a name that the script declares', (source, place) => source.variableAt(place)?.defs.length > 0],
+    ],
   },
   'no-extra-parens': {
     eslint: [
@@ -240,6 +243,9 @@ const REASONS = {
     ],
   },
   'no-irregular-whitespace': { eslint: [['in a comment', (source, place) => source.commentAt(place) !== null]] },
+  'no-misleading-character-class': {
+    eslint: [['a text that `RegExp` is called with', (source, place) => source.nodeAt(place, 'CallExpression', 'NewExpression') !== undefined]],
+  },
   'no-redeclare': {
     eslint: [
       [
@@ -249,12 +255,7 @@ const REASONS = {
     ],
   },
   'no-self-assign': {
-    jslint: [
-      [
-        'a member of `this` or `super`, which ESLint 6.4 lets be',
-        (source, place) => isOfThis(source, partAt(source, place, 'right')),
-      ],
-    ],
+    jslint: [['a member of `this` or `super`, which ESLint 6.4 lets be', (source, place) => isOfThis(source, partAt(source, place, 'right'))]],
   },
   'no-self-compare': {
     eslint: [
@@ -331,10 +332,7 @@ const REASONS = {
   },
   'operator-assignment': {
     jslint: [
-      [
-        'a member of `this` or `super`, which ESLint 6.4 lets be',
-        (source, place) => isOfThis(source, source.nodeAt(place, 'AssignmentExpression')?.left),
-      ],
+      ['a member of `this` or `super`, which ESLint 6.4 lets be', (source, place) => isOfThis(source, source.nodeAt(place, 'AssignmentExpression')?.left)],
     ],
   },
   'prefer-const': {
@@ -367,4 +365,4 @@ function reasonOf(side, rule, place, source) {
   return REASONS[rule]?.[side]?.find(([, holds]) => holds(source, place))?.[0] ?? null;
 }
 
-module.exports = { reasonOf };
+module.exports = { isBeforeNothing, reasonOf };
