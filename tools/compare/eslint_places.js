@@ -68,7 +68,7 @@ const PLACES = {
   },
 };
 
-// These `jslint` reports once of a function, ESLint as often as there is something to say of it.
-const ONCE = new Set(['consistent-return']);
+// These `jslint` reports once of a function or a literal, ESLint as often as there is something to say of it.
+const ONCE = new Set(['consistent-return', 'no-misleading-character-class']);
 
 module.exports = { ONCE, PLACES };

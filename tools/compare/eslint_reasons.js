@@ -67,12 +67,27 @@ function isBelowIf(source, place) {
   return it?.parent.type === 'IfStatement' && it.parent.consequent === it;
 }
 
+// Whether a node is a member of `this` or `super`, or of such a member.
+const isOfThis = (source, it) => it?.type === 'MemberExpression' && source.has(it, (part) => part.type === 'ThisExpression' || part.type === 'Super');
+
 const startsWithCapital = (name) => name !== '' && name[0] !== name[0].toLowerCase();
 
 // Whether the function that begins here has a name like a constructor, or is one.
 function isConstructor(source, place) {
   const it = source.nodeAt(place, 'FunctionDeclaration', 'FunctionExpression');
   return it !== undefined && (startsWithCapital(it.id?.name ?? '') || it.parent.kind === 'constructor');
+}
+
+// Whether a `return` stands in a `try` block, or nothing but a further `return` without argument comes behind it.
+function isBeforeNothing(source, place) {
+  let it = source.nodeAt(place, 'ReturnStatement');
+  for (; it !== undefined && !/Function/.test(it.parent.type); it = it.parent) {
+    if (it.parent.type === 'TryStatement' && it.parent.block === it) return true;
+    const list = it.parent.consequent ?? it.parent.body;
+    const behind = Array.isArray(list) ? list.slice(list.indexOf(it) + 1).filter((other) => other.type !== 'FunctionDeclaration') : [];
+    if (behind.length > 0) return behind.every((other) => other.type === 'ReturnStatement' && other.argument === null);
+  }
+  return false;
 }
 
 // Whether a `+` adds a text that stands more than one `+` deep in one of its sides.
@@ -130,8 +145,15 @@ const REASONS = {
   'no-eval': {
     eslint: [['`eval` that isn\'t called by its name', (source, place) => source.nameAt(place)?.parent.callee === undefined || source.text[place - 1] === '.']],
   },
+  'no-extend-native': {
+    eslint: [
+      ['`Object.defineProperty` or its kin', (source, place) => source.nodeAt(place, 'CallExpression') !== undefined],
+      ['a name that the script declares', (source, place) => source.variableAt(place)?.defs.length > 0],
+    ],
+  },
   'no-extra-parens': {
     eslint: [
+      ['a pair round `??`, which ESLint 6.4 doesn\'t know', (source, place) => source.inParentheses(place)?.node.operator === '??'],
       [
         'a sequence in a sequence, which would be one',
         (source, place) => {
@@ -172,6 +194,7 @@ const REASONS = {
         },
       ],
       ['a regular expression', (source, place) => source.inParentheses(place).node.regex !== undefined],
+      ['in an operand of `??`, which ESLint 6.4 doesn\'t know', (source, place) => source.inParentheses(place).node.parent.operator === '??'],
       ['one of several pairs round the same', (source, place) => source.inParentheses(place).pairs > 1],
       [
         'a call in what `new` makes, round which a smaller pair would do',
@@ -208,7 +231,21 @@ const REASONS = {
   'no-implicit-globals': {
     eslint: [['a further declaration of a name', (source, place) => source.variableAt(place)?.identifiers[0].range[0] < place]],
   },
+  'no-inner-declarations': {
+    jslint: [
+      [
+        'in a block that is an item of the script, which ESLint 6.4 lets be',
+        (source, place) => {
+          const { parent } = source.nodeAt(place, 'FunctionDeclaration');
+          return parent.type === 'BlockStatement' && parent.parent.type === 'Program';
+        },
+      ],
+    ],
+  },
   'no-irregular-whitespace': { eslint: [['in a comment', (source, place) => source.commentAt(place) !== null]] },
+  'no-misleading-character-class': {
+    eslint: [['a text that `RegExp` is called with', (source, place) => source.nodeAt(place, 'CallExpression', 'NewExpression') !== undefined]],
+  },
   'no-redeclare': {
     eslint: [
       [
@@ -218,15 +255,7 @@ const REASONS = {
     ],
   },
   'no-self-assign': {
-    jslint: [
-      [
-        'a member in brackets, or of `this`, which ESLint 6.4 lets be',
-        (source, place) => {
-          const it = partAt(source, place, 'right');
-          return it?.type === 'MemberExpression' && source.has(it, (part) => part.computed === true || part.type === 'ThisExpression');
-        },
-      ],
-    ],
+    jslint: [['a member of `this` or `super`, which ESLint 6.4 lets be', (source, place) => isOfThis(source, partAt(source, place, 'right'))]],
   },
   'no-self-compare': {
     eslint: [
@@ -295,18 +324,15 @@ const REASONS = {
   },
   'no-use-before-define': { eslint: [['a name in its own initializer', isInOwnInitializer]] },
   'no-useless-concat': { eslint: [['a text more than one `+` deep in a side', isDeep]] },
+  'no-useless-return': {
+    eslint: [['in a `try` block, or before nothing but a further such `return`', isBeforeNothing]],
+  },
   'no-useless-rename': {
     jslint: [['with a default, which ESLint 6.4 lets be', (source, place) => source.nodeAt(place, 'Property')?.value.type === 'AssignmentPattern']],
   },
   'operator-assignment': {
     jslint: [
-      [
-        'a side with `this` or with a key in brackets',
-        (source, place) => {
-          const it = source.nodeAt(place, 'AssignmentExpression');
-          return it !== undefined && source.has(it.left, (part) => part.type === 'ThisExpression' || part.computed === true);
-        },
-      ],
+      ['a member of `this` or `super`, which ESLint 6.4 lets be', (source, place) => isOfThis(source, source.nodeAt(place, 'AssignmentExpression')?.left)],
     ],
   },
   'prefer-const': {
@@ -339,4 +365,4 @@ function reasonOf(side, rule, place, source) {
   return REASONS[rule]?.[side]?.find(([, holds]) => holds(source, place))?.[0] ?? null;
 }
 
-module.exports = { reasonOf };
+module.exports = { isBeforeNothing, reasonOf };
