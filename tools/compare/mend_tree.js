@@ -28,7 +28,7 @@ function withoutLabel(node) {
 }
 
 // The statements of a list that stay.
-const staying = (list) => list.map(withoutLabel).filter((it) => it.type !== 'EmptyStatement' && it.type !== 'DebuggerStatement');
+const staying = (list) => list.map(withoutLabel).filter((it) => !/^(?:Empty|Debugger)Statement$/.test(it.type));
 
 const block = (list) => ({ type: 'BlockStatement', body: list });
 
